@@ -1,11 +1,12 @@
 #!/usr/bin/env -S python3 -B
-"""Breaks the lines of proofs that have more than 160 columns where a line can be broken outside of brackets; what stays
-wider is one term. layout.py lays out all proofs, and prints how many lines it broke."""
+"""Breaks the lines of proofs that have more than 120 columns: before an arrow, after `in` or `=`, before a step of a
+chain, and else between two words, in as few brackets as may be. layout.py lays out all proofs, and prints how many
+lines it broke."""
 
 import re
 from pathlib import Path
 
-WIDTH = 160
+WIDTH = 120
 CRATES = Path(__file__).resolve().parent.parent / "crates"
 IMPORT = re.compile(r"((?:pub )?use [^{]+\{)([^}]*)\}")
 # `name : type`, also of several names, with the words before it.
@@ -13,6 +14,8 @@ STATEMENT = re.compile(r"(?:abbrev |unfoldable )*(?:pub )?[^\s(){}\[\]=:]+(?: [^
 # A record's field, and what begins a term and no equation.
 FIELD = re.compile(r"[\w-]+ = .*;")
 TERM = re.compile(r"[|∙λ(\[]|(?:ap|by_if|elim|record|rw|subst) ")
+# Where a word may begin a line: no operator's sign, and nothing that says how what is before it is read.
+SPACE = re.compile(r"(?<![=:→↦∙×≡∷λ])(?<!record) (?![=:|↦≡]|in\b|of\b|where\b)")
 
 
 def outside(text, mark):
@@ -67,32 +70,63 @@ def imports(head, names):
     return [*lines, f"{head}{', '.join(held)}}}"]
 
 
+def words(text, indent, deeper):
+    """The text in two lines, begun anew where as few brackets are open as may be, at a sign or else at a word."""
+    places, depth = [], 0
+    for place, sign in enumerate(text[: WIDTH - len(indent) + 1]):
+        if sign in "([{":
+            depth += 1
+        elif sign in ")]}":
+            depth -= 1
+        elif sign == " " and len(deeper) < place + len(indent) and SPACE.match(text, place):
+            at_sign = text[place - 1] == ";" or text.startswith(("→ ", "∙ "), place + 1)
+            places.append((depth, not at_sign, -place))
+    if not places:
+        return [indent + text]
+    place = -min(places)[2]
+    return [indent + text[:place], deeper + text[place + 1 :]]
+
+
+def comment(text, indent):
+    """A comment in lines that are as full as they may be."""
+    lines = [indent + "--"]
+    for word in text[2:].split():
+        if len(lines[-1]) + 1 + len(word) > WIDTH:
+            lines.append(indent + "--")
+        lines[-1] += " " + word
+    return lines
+
+
 def broken(line):
-    """A wide line in two or more, or itself where it is one term."""
+    """A wide line in two or more, or itself where it is one word."""
     text = line.lstrip()
     indent = line[: len(line) - len(text)]
     deeper = indent + "    "
     if text.startswith("--"):
-        return [line]
+        return comment(text, indent)
     if found := IMPORT.fullmatch(text):
         return imports(indent + found[1], found[2])
+    parts = [line]
     if text.startswith("module _ "):
-        return filled(text, binders(text), indent, deeper)
-    if text.startswith("→ "):
-        return filled(text, outside(text, "→"), indent, indent)
-    if text.startswith("let "):
+        parts = filled(text, binders(text), indent, deeper)
+    elif text.startswith("→ "):
+        parts = filled(text, outside(text, "→"), indent, indent)
+    elif text.startswith("let "):
         if ends := [place + 3 for place in outside(text, "in") if text[place + 3 :].strip()]:
-            return [indent + text[: ends[0]].rstrip(), indent + text[ends[0] :]]
-        if text.endswith(" in") and (starts := outside(text, "=")):
-            return [indent + text[: starts[0] + 1], indent + text[starts[0] + 2 :]]
-        return [line]
-    if STATEMENT.match(text):
-        return filled(text, outside(text, "→"), indent, deeper)
-    if FIELD.fullmatch(text):
-        return filled(text, outside(text, "∙"), indent, deeper)
-    if not TERM.match(text) and (starts := outside(text, "=")):
-        return [indent + text[: starts[0] + 1], deeper + text[starts[0] + 2 :]]
-    return filled(text, outside(text, "∙"), indent, indent)
+            parts = [indent + text[: ends[0]].rstrip(), indent + text[ends[0] :]]
+        elif text.endswith(" in") and (starts := outside(text, "=")):
+            parts = [indent + text[: starts[0] + 1], deeper + text[starts[0] + 2 :]]
+    elif STATEMENT.match(text):
+        parts = filled(text, outside(text, "→"), indent, deeper)
+    elif FIELD.fullmatch(text):
+        parts = filled(text, outside(text, "∙"), indent, deeper)
+    elif not TERM.match(text) and (starts := outside(text, "=")):
+        parts = [indent + text[: starts[0] + 1], deeper + text[starts[0] + 2 :]]
+    else:
+        parts = filled(text, outside(text, "∙"), indent, indent)
+    if len(parts) > 1:
+        return parts
+    return words(text, indent, indent if text.startswith("∙ ") else deeper)
 
 
 def laid_out(lines):

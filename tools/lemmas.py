@@ -4,7 +4,7 @@ import re
 from collections import defaultdict
 from functools import cached_property
 
-from repository import ROOT
+from repository import ROOT, crates_of_tests
 
 CRATES = ROOT / "crates"
 # A name, as antt reads it: it may have signs in it, as in `length-push`.
@@ -168,7 +168,7 @@ def twice(known):
 
 def away(known):
     """The general lemmas that stand in a crate, and that another one but those of tests uses: their home is xa_base."""
-    tests = {file.crate for file in known if file.crate.endswith("_tests")}
+    tests = set(crates_of_tests())
     importing = defaultdict(list)
     for file in known:
         for module in {module for module, _, _ in file.imports}:

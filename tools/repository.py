@@ -46,8 +46,10 @@ def programs():
 
 
 def crates_of_tests():
-    """The names of the crates that have tests and nothing else."""
-    return [name for name in lines() if name.endswith("_tests")]
+    """The names of the crates that have tests and nothing else: these are no programs, and nothing stands on them."""
+    known = lines()
+    used = {name for line in known.values() for name in line.partition(":")[2].split()}
+    return [name for name in known if name.startswith("test_") and name not in {*used, *programs()}]
 
 
 def crates_run_unproved():

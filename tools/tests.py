@@ -1,5 +1,5 @@
 #!/usr/bin/env -S python3 -B
-"""Runs the tests of the crates whose names end in _tests, or proves them.
+"""Runs the tests of the crates that have tests alone, or proves them.
 
 Usage: tests.py [--prove] [CRATE..]
 

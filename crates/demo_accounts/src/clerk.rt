@@ -7,17 +7,17 @@ ghost use Rattle.xa_desk.specs.Kept.{AllKept};
 use crate::fault::Fault;
 use crate::lines::{Event, add_event, write_lines};
 use crate::numbers::{STORES, TRANSFERS};
+use demo_bank::{Habits, Teller, Transfer};
 use std::alloc::{AllocError, Global};
 use std::io::Write;
 use std::sync::Wait;
-use demo_bank::{Habits, Teller, Transfer};
 use xa_crew::Client;
 use xa_crew::laws::idles_go_on;
 use xa_desk::laws::desks_go_on;
 use xa_desk::{Desk, Idle};
 use xa_log::DecisionLog;
 use xa_words::{Code, Key, Tran};
-use xa_work::WorkOutcome;
+use xa_work::{CommitOutcome, WorkOutcome};
 
 /// A teller that tells of each of its transfers on standard output, or wherever it is to.
 #[derive(Drop)]
@@ -110,19 +110,19 @@ impl<L: DecisionLog + Drop, W: Write + Drop> Clerk<L, W> {
         forgets: bool,
     ) -> Result<(), Fault> {
         match self.teller.outcomes.first() {
-            Some(WorkOutcome::Decided(done)) if done.commit && done.logged => {
-                add_event(self.alloc, lines, Event::Committed, thread, &tran)?;
-                if forgets && done.is_acknowledged() {
-                    add_event(self.alloc, lines, Event::Forgotten, thread, &tran)?;
-                } else {
-                    self.recorded.push(tran)?;
+            Some(WorkOutcome::Commit(CommitOutcome::Decided(done))) if done.commit && done.logged =>
+                {
+                    add_event(self.alloc, lines, Event::Committed, thread, &tran)?;
+                    if forgets && done.is_acknowledged() {
+                        add_event(self.alloc, lines, Event::Forgotten, thread, &tran)?;
+                    } else {
+                        self.recorded.push(tran)?;
+                    }
+                    Ok(())
                 }
-                Ok(())
-            }
-            Some(WorkOutcome::Decided(done)) if have_all_agreed(&done.votes) => {
-                Err(Fault::Unrecorded)
-            }
-            Some(WorkOutcome::Undecided(_)) => {
+            Some(WorkOutcome::Commit(CommitOutcome::Decided(done)))
+                if have_all_agreed(&done.votes) => { Err(Fault::Unrecorded) }
+            Some(WorkOutcome::Commit(CommitOutcome::Undecided(_))) => {
                 add_event(self.alloc, lines, Event::Undecided, thread, &tran)?;
                 Err(Fault::Unrecorded)
             }

@@ -120,7 +120,8 @@ impl Fault {
         }
     }
 
-    /// What is told of it, in one line: `demo_accounts: teller-2.log: it is damaged`. The folder is named as it was given.
+    /// What is told of it, in one line: `demo_accounts: teller-2.log: it is damaged`. The folder is named as it was
+    /// given.
     pub fn line(self, alloc: Global, folder: &str) -> Result<String, AllocError> {
         let cause = self.cause();
         match self.place() {

@@ -10,8 +10,8 @@ use crate::fault::{Fault, Place};
 use crate::numbers::{DAYS, TELLERS};
 use std::fs;
 use std::io::{ErrorKind, Write};
-use xa_log_file::{Device, DiskLog, FileLog, FolderFault, LogFolder};
 use xa_log::DecisionRecords;
+use xa_log_file::{Device, DiskLog, FileLog, FolderFault, LogFolder};
 
 // How many records a log has room for.
 const SLOTS: u32 = 1024;

@@ -7,8 +7,8 @@ use crate::lines::{name_of, write_lines};
 use crate::numbers::STORES;
 use std::alloc::{AllocError, Global};
 use std::io::Write;
-use xa_log_file::{Device, FileLog};
 use xa_log::{CommitRecord, DecisionRecords};
+use xa_log_file::{Device, FileLog};
 use xa_words::{ManagerSet, Tran};
 
 // The stores that voted yes: `1, 3`.

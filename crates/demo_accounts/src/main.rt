@@ -1,4 +1,5 @@
-//! A bank whose decision logs outlive it: `demo_accounts FOLDER [DAYS]`. `demo_accounts --help` says what its statuses mean.
+//! A bank whose decision logs outlive it: `demo_accounts FOLDER [DAYS]`. `demo_accounts --help` says what its statuses
+//! mean.
 //!
 //! Four tellers, each in a thread of its own, move money between three stores in memory, and each decides by a log in
 //! a file of the folder (files.rt). At the start the program tells what the logs have: what was decided when the last
@@ -18,7 +19,7 @@ mod words;
 use crate::day::keep_the_days;
 use crate::fault::Fault;
 use crate::lines::write_lines;
-use crate::words::{Order, WordsFault, help, order_of};
+use crate::words::{Order, OrderFault, help, order_of};
 use std::env;
 use std::io::{self, Write};
 use std::process::ExitCode;
@@ -48,8 +49,8 @@ fn obey<H: Threads + Wait + Copy + Send + 'static>(
     match order_of(alloc, &texts) {
         Ok(Order::Keep { folder, days }) => keep_the_days(files, rt, folder, days),
         Ok(Order::Help) => write_lines(&mut files.stdout(), &help(alloc)?),
-        Err(WordsFault::Usage) => Err(Fault::Usage),
-        Err(WordsFault::NoMemory) => Err(Fault::NoMemory),
+        Err(OrderFault::Usage) => Err(Fault::Usage),
+        Err(OrderFault::NoMemory) => Err(Fault::NoMemory),
     }
 }
 

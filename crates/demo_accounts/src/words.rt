@@ -42,16 +42,16 @@ pub enum Order<'a> {
 
 /// Why the words order nothing.
 #[derive(Clone, Copy, Debug, PartialEq, Eq)]
-pub enum WordsFault {
+pub enum OrderFault {
     /// They are no folder with perhaps a number, nor `--help`.
     Usage,
     /// Memory ran out while they were judged.
     NoMemory,
 }
 
-impl From<AllocError> for WordsFault {
-    fn from(_error: AllocError) -> WordsFault {
-        WordsFault::NoMemory
+impl From<AllocError> for OrderFault {
+    fn from(_error: AllocError) -> OrderFault {
+        OrderFault::NoMemory
     }
 }
 
@@ -79,29 +79,29 @@ pub fn help(alloc: Global) -> Result<String, AllocError> {
 }
 
 // Judges how many words there are. A word that could be an option is judged before clap reads it.
-fn judge(alloc: Global, words: &[&str]) -> Result<(), WordsFault> {
+fn judge(alloc: Global, words: &[&str]) -> Result<(), OrderFault> {
     if words.is_empty() || words.len() > 2 {
-        return Err(WordsFault::Usage);
+        return Err(OrderFault::Usage);
     }
     for word in words {
         if word.is_empty() || word.starts_with('-') {
-            return Err(WordsFault::Usage);
+            return Err(OrderFault::Usage);
         }
     }
     match command(alloc)?.try_get_matches_from(words) {
         Ok(_matches) => Ok(()),
         Err(error) => {
             if error.kind() == ErrorKind::OutOfMemory {
-                Err(WordsFault::NoMemory)
+                Err(OrderFault::NoMemory)
             } else {
-                Err(WordsFault::Usage)
+                Err(OrderFault::Usage)
             }
         }
     }
 }
 
 /// What the words order: a folder, which is no option, and perhaps a number of days below 2^32; or `--help`.
-pub fn order_of<'a>(alloc: Global, words: &[&'a str]) -> Result<Order<'a>, WordsFault> {
+pub fn order_of<'a>(alloc: Global, words: &[&'a str]) -> Result<Order<'a>, OrderFault> {
     if let [word] = words
         && (*word == "--help" || *word == "-h")
     {
@@ -109,13 +109,13 @@ pub fn order_of<'a>(alloc: Global, words: &[&'a str]) -> Result<Order<'a>, Words
     }
     judge(alloc, words)?;
     let Some(folder) = words.first() else {
-        return Err(WordsFault::Usage);
+        return Err(OrderFault::Usage);
     };
     let days = match words.get(1) {
         None => None,
         Some(word) => match word.parse::<u32>() {
             Ok(days) => Some(days),
-            Err(_) => return Err(WordsFault::Usage),
+            Err(_) => return Err(OrderFault::Usage),
         },
     };
     Ok(Order::Keep {

@@ -16,7 +16,8 @@ use Rattle.xa_log.specs.Log.{IsEither, LogState, without_record}
 use Rattle.xa_work.specs.declared.unit.Change.{Change}
 use Rattle.xa_work.specs.declared.unit.Refusal.TheVariants.{NotBegun}
 use Rattle.xa_work.specs.declared.unit.WorkOutcome.{WorkOutcome}
-use Rattle.xa_work.specs.declared.unit.WorkOutcome.TheVariants.{Decided, Refused}
+use Rattle.xa_driver.specs.declared.done.CommitOutcome.TheVariants.{Decided}
+use Rattle.xa_work.specs.declared.unit.WorkOutcome.TheVariants.{Commit, Refused}
 use Rattle.xa_work.specs.Sent.{HaveSent, IsOpenRm}
 use Rattle.xa_work.specs.Units.{IfLost, IsGivenUp, Transacts}
 use Rattle.demo_bank.specs.Numbered.{death_in, shut_before}
@@ -34,8 +35,8 @@ abbrev pub FORMAT : ℤ
 FORMAT = pos 1
 
 -- the name of that transaction
-abbrev pub tran_named : ℕ → ℕ → TranName
-tran_named t n = record { format = FORMAT; gtrid = gtrid_of t n }
+abbrev pub tran_of_transfer : ℕ → ℕ → TranName
+tran_of_transfer t n = record { format = FORMAT; gtrid = gtrid_of t n }
 
 -- a store's branch of a transfer, and what is added to its account there
 pub record Leg : Type 0 where
@@ -65,8 +66,8 @@ abbrev pub change_of : Leg → List ℕ → Change
 change_of leg k = record { m = leg.branch.m; key = k; delta = leg.delta }
 
 -- the branches of two legs, and what they change
-abbrev pub branches_of : Leg → Leg → List Branch
-branches_of one two = one.branch ∷ two.branch ∷ []
+abbrev pub branches_of_legs : Leg → Leg → List Branch
+branches_of_legs one two = one.branch ∷ two.branch ∷ []
 
 abbrev pub changes_of : Leg → Leg → List ℕ → List Change
 changes_of one two k = change_of one k ∷ change_of two k ∷ []
@@ -87,12 +88,12 @@ pub record HasLegs (t n : ℕ) (tr : Transfer) (b : Branch) (c : Change) (b' : B
 abbrev pub Transfers : Leg → Leg → List ℕ → Option Death → WorkOutcome → DeskView → DeskView → LogState → LogState
     → Type 0
 Transfers one two k death o old new log later =
-    Transacts (branches_of one two) (changes_of one two k) death o old new log (Unit {0}) later
+    Transacts (branches_of_legs one two) (changes_of one two k) death o old new log (Unit {0}) later
 
 -- the log, once the record of a transaction that came to this is forgotten, where every store has acknowledged it
-abbrev pub forgotten : TranName → WorkOutcome → LogState → LogState
-forgotten tran (Decided done) log = if is_acknowledged done then without_record log tran else log
-forgotten tran o log = log
+abbrev pub log_after_forgetting : TranName → WorkOutcome → LogState → LogState
+log_after_forgetting tran (Commit (Decided done)) log = if is_acknowledged done then without_record log tran else log
+log_after_forgetting tran o log = log
 
 -- Where nobody knows whether the log has the record that the votes on these branches wanted: whatever it may be read
 -- as, once it is opened again, is what it was, with that record or without it.
@@ -107,8 +108,8 @@ pub data Makes (t n : ℕ) (tr : Transfer) (habits : Habits) (o : WorkOutcome) (
     (log later : LogState) (MayRead : LogState → Type 0) : Type 0 where
   with_legs : (one two : Leg) (left : LogState) → AreLegs t n tr one two
       → Transfers one two tr.account (death_in habits n) o old new log left
-      → later ≡ (if habits.forgets then forgotten (tran_of one.branch.xid) o left else left)
-      → IsReadEither MayRead (branches_of one two) log o → Makes t n tr habits o old new log later MayRead
+      → later ≡ (if habits.forgets then log_after_forgetting (tran_of one.branch.xid) o left else left)
+      → IsReadEither MayRead (branches_of_legs one two) log o → Makes t n tr habits o old new log later MayRead
   without_legs : o ≡ Refused NotBegun → HasNoLegs n tr → new ≡ old → later ≡ log
       → Makes t n tr habits o old new log later MayRead
 
@@ -131,7 +132,7 @@ pub record WantsMemory (t n : ℕ) (tr : Transfer) (habits : Habits) (old new : 
   pub one : Leg
   pub two : Leg
   pub legs : AreLegs t n tr one two
-  pub given_up : IsGivenUp (branches_of one two) (changes_of one two tr.account) shut new log
+  pub given_up : IsGivenUp (branches_of_legs one two) (changes_of one two tr.account) shut new log
 
 -- so for as many transfers as there are outcomes, one after the other, with numbers from n on
 abbrev pub MakesEach : ℕ → Habits → ℕ → List Transfer → List WorkOutcome → DeskView → DeskView → LogState

@@ -3,17 +3,17 @@ ghost use Rattle.std.specs.Prelude.{◌≡◌, length, All, IfErr, IfOk};
 ghost use Rattle.xa_switch.specs.Plans.{IsSound, planned};
 ghost use Rattle.xa_switch.specs.Worth.{plan_worth, settled_worth};
 ghost use Rattle.xa_crew.specs.Run.{HasRunAll, IsRun, PutsBack};
-ghost use Rattle.demo_bank.specs.Tellers.{EndsWhole, Works};
+ghost use Rattle.demo_bank.specs.Tellers.{EndsWhole, TellerWorks};
 
 use crate::teller::Teller;
+use laws_commit::{managers_open_with_their_accounts, transfers_conserve_the_worth};
+use laws_tables::a_thread_adds_as_it_works;
 use std::alloc::Global;
 use std::sync::Wait;
 use std::thread::Threads;
-use laws_commit::{managers_open_with_their_accounts, transfers_conserve_the_worth};
 use xa_crew::{CrewFault, Run, run_clients};
 use xa_log::DecisionLog;
 use xa_switch::Plan;
-use laws_tables::a_thread_adds_as_it_works;
 use xa_worker::Free;
 
 /// What a day came to: each teller with what became of its transfers, and the settled opening.
@@ -36,12 +36,12 @@ pub fn run_day<R: Threads + Wait + Copy + Send + 'static, L: DecisionLog + Drop 
     tellers: Vec<Teller<L>>,
 ) -> Result<Day<L>, CrewFault<Teller<L>>>
     requires { length tellers.items ≡ plan.now.threads }
-    ensures ran { IfOk result (λ day. IsRun (Works L.state L.knows L.loses) (planned plan.now) tellers.items
+    ensures ran { IfOk result (λ day. IsRun (TellerWorks L.state L.knows L.loses) (planned plan.now) tellers.items
         day.clients.items day.settled) }
     ensures conserved { IfOk result (λ day. All EndsWhole day.clients.items
         → settled_worth plan.now day.settled ≡ plan_worth plan.now) }
     ensures bad { IfErr result (λ f. f ≡ CrewFault.BadPlan → ¬ IsSound plan.now) }
-    ensures unsettled { IfErr result (PutsBack (HasRunAll (Works L.state L.knows L.loses) (planned plan.now)
+    ensures unsettled { IfErr result (PutsBack (HasRunAll (TellerWorks L.state L.knows L.loses) (planned plan.now)
         tellers.items)) }
 {
     transfers_conserve_the_worth();

@@ -8,7 +8,7 @@ ghost use Rattle.xa_work.specs.Units.{IfLost, LeavesKnown};
 ghost use Rattle.demo_bank.specs.Tellers.{HasMade, ReadsBack, has_record_of, has_undecided, last_number, plain};
 ghost use Rattle.demo_bank.specs.Numbered.{store_if_at};
 ghost use Rattle.demo_bank.specs.Transfers.{HasLegs, HasNoLegs, IsLeg, MakesNext, MayShut, WantsMemory};
-ghost use Rattle.demo_bank.specs.Transfers.{change_of, forgotten, gtrid_of, leg_by, tran_named};
+ghost use Rattle.demo_bank.specs.Transfers.{change_of, log_after_forgetting, gtrid_of, leg_by, tran_of_transfer};
 
 use crate::habits::Habits;
 use std::alloc::{AllocError, Global};
@@ -19,7 +19,7 @@ use xa_crew::laws::idles_go_on;
 use xa_crew_again::ClientAgain;
 use xa_desk::laws::desks_go_on;
 use xa_desk::{Desk, Idle};
-use xa_driver::{Branch, forget_acknowledged};
+use xa_driver::{Branch, CommitOutcome, forget_acknowledged};
 use xa_log::{DecisionLog, DecisionRecords, ReopenLog};
 use xa_scan::Scan;
 use xa_words::{Delta, Key, ManagerSet, RmOp, TMNOFLAGS, Tran, Xid};
@@ -64,7 +64,7 @@ fn gtrid_of(thread: u32, number: u32) -> [u8; 8]
 
 // The name of that transaction.
 fn tran_named(thread: u32, number: u32) -> Tran
-    ensures { result ≡ tran_named thread number }
+    ensures { result ≡ tran_of_transfer thread number }
 {
     let Ok(tran) = Tran::new(FORMAT, &gtrid_of(thread, number)) else {
         unreachable!()
@@ -112,11 +112,11 @@ fn legs_of(thread: u32, number: usize, transfer: &Transfer) -> Option<(Leg, Leg)
 // Forgets the record of a transfer that came to this, where every store has acknowledged it.
 fn forget_made<L: DecisionLog>(log: &mut L, tran: &Tran, outcome: &WorkOutcome)
     requires { LeavesKnown (L.knows log.old) outcome.now }
-    ensures forgotten { L.state log.new ≡ forgotten tran.now outcome.now (L.state log.old) }
+    ensures forgotten { L.state log.new ≡ log_after_forgetting tran.now outcome.now (L.state log.old) }
     ensures known { LeavesKnown (L.knows log.new) outcome.now }
     ensures lost { IfLost (λ votes. log.new ≡ log.old) outcome.now }
 {
-    if let WorkOutcome::Decided(done) = outcome {
+    if let WorkOutcome::Commit(CommitOutcome::Decided(done)) = outcome {
         forget_acknowledged(log, tran, done);
     }
 }
@@ -257,9 +257,10 @@ impl<L: DecisionLog + Drop> Teller<L> {
     pub fn has_undecided(&self) -> bool
         ensures { result ≡ has_undecided self.now }
     {
-        self.outcomes
-            .iter()
-            .any(|outcome| matches!(outcome, WorkOutcome::Undecided(_)))
+        self.outcomes.iter().any(|outcome| matches!(
+            outcome,
+            WorkOutcome::Commit(CommitOutcome::Undecided(_))
+        ))
     }
 
     /// Whether its log has the record of the last transfer that it made, as the teller of this thread. It has none of a
@@ -327,9 +328,9 @@ impl<L: DecisionLog + Drop> DecisionRecords for Teller<L> {
 }
 
 impl<L: DecisionLog + Drop> Client for Teller<L> {
-    ghost use Rattle.demo_bank.specs.Tellers.{Works};
+    ghost use Rattle.demo_bank.specs.Tellers.{TellerWorks};
 
-    ghost works = { Works L.state L.knows L.loses };
+    ghost works = { TellerWorks L.state L.knows L.loses };
 
     fn work<R: Wait, I: Idle>(&mut self, rt: &R, desk: &mut Desk, idle: &mut I) {
         self.wants_memory = self.make_all(rt, desk, idle).is_err();

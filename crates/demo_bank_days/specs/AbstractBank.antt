@@ -8,14 +8,14 @@ abbrev pub Balances : Type 0
 Balances = ℕ → List ℕ → ℤ
 
 -- what an account at store m is paid by a transfer, and what it pays
-abbrev pub share : Transfer → ℕ → List ℕ → ℤ
-share tr m k =
+abbrev pub transfer_share : Transfer → ℕ → List ℕ → ℤ
+transfer_share tr m k =
     (if (tr.to == m) && key_eq k tr.account then pos tr.amount else pos 0)
     +ℤ (if (tr.from == m) && key_eq k tr.account then neg_ℤ (pos tr.amount) else pos 0)
 
 -- a transfer that was decided to commit is applied whole, and any other not at all
 abbrev pub applied : Transfer → Bool → Balances → Balances
-applied tr was B m k = if was then B m k +ℤ share tr m k else B m k
+applied tr was B m k = if was then B m k +ℤ transfer_share tr m k else B m k
 
 -- so for many, one after the other, each with whether it was applied
 abbrev pub all_applied : List (Transfer × Bool) → Balances → Balances

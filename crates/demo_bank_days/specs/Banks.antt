@@ -58,7 +58,7 @@ abbrev pub next_numbers : Again → ℕ → Again
 next_numbers n threads = record n { opening = (n.opening + 1) % 2 ^ 64; threads = threads }
 
 -- there is room for what so many tellers come to, and nothing yet
-pub record HasRoom {L : Type 0} (tellers : ℕ) (e : Evening L) : Type 0 where
+pub record HasRoomForTellers {L : Type 0} (tellers : ℕ) (e : Evening L) : Type 0 where
   pub none : e.tellers.items ≡ []
   pub off_work : tellers ≤ vec_capacity e.tellers
   pub no_outcomes : e.outcomes.items ≡ []
@@ -68,7 +68,7 @@ pub record HasRoom {L : Type 0} (tellers : ℕ) (e : Evening L) : Type 0 where
 
 -- These tellers worked over stores that had been left so, and whether one wants memory was told, and what became of
 -- their transfers. Then the log of each was read back.
-pub record HasWorked {L : Type 0} (state : L → LogState) (knows : L → Type 0)
+pub record TellersHaveWorked {L : Type 0} (state : L → LogState) (knows : L → Type 0)
     (loses : TranName → List Bool → L → L → Type 0) (reopens : L → L → Type 0) (before : Settling)
     (turned : List (Teller L)) (w : Worked L) : Type 0 where
   pub worked : List (Teller L)
@@ -90,14 +90,14 @@ pub record LeavesDay {L : Type 0} (state : L → LogState) (knows : L → Type 0
   pub unsettled : IfUnsettled (HasRunAgain (WorksOn state knows loses) s again turned) fault
 
 -- A day of these errands: the tellers were turned to them and worked, and what became of their transfers was told.
-pub record IsDay {L : Type 0} (state : L → LogState) (knows : L → Type 0)
+pub record IsBankDay {L : Type 0} (state : L → LogState) (knows : L → Type 0)
     (loses : TranName → List Bool → L → L → Type 0) (reopens : L → L → Type 0) (b : Bank L) (errands : List Errands)
     (c : Closed) : Type 0 where
   pub turned : List (Teller L)
   pub are_turned : AreTurned b.next b.tellers.items errands turned
   pub many : length errands < 2 ^ 32
   pub day : Worked L
-  pub works : HasWorked state knows loses reopens b.settled turned day
+  pub works : TellersHaveWorked state knows loses reopens b.settled turned day
   pub told_ : c.outcomes ≡ day.evening.outcomes
   pub found_ : c.found ≡ day.evening.found
 
@@ -124,14 +124,14 @@ LeavesBank {L} state knows loses reopens b errands (Day fault) =
     (turned : List (Teller L)) × AreTurned b.next b.tellers.items errands turned
     × LeavesDay state knows loses b.settled (day_numbers b errands) turned fault
 LeavesBank state knows loses reopens b errands (Night c ran) =
-    (z : IsDay state knows loses reopens b errands c)
+    (z : IsBankDay state knows loses reopens b errands c)
     × IsUnsettledNight state knows z.day.evening.tellers z.day.settled (night_numbers b errands) ran
 
 -- So a day, and the bank after it.
 pub record IsWorkedDay {L : Type 0} (state : L → LogState) (knows : L → Type 0)
     (loses : TranName → List Bool → L → L → Type 0) (reopens : L → L → Type 0) (b : Bank L) (errands : List Errands)
     (c : Closed) (b' : Bank L) : Type 0 where
-  pub is_day : IsDay state knows loses reopens b errands c
+  pub is_day : IsBankDay state knows loses reopens b errands c
   pub open is_day use *
   pub stays : day.wanting ≡ true → b'.settled ≡ day.settled
   pub numbers : b'.again ≡ (if day.wanting then day_numbers b errands else night_numbers b errands)
@@ -140,7 +140,7 @@ pub record IsWorkedDay {L : Type 0} (state : L → LogState) (knows : L → Type
   pub next : All (λ e. b.next + length e.transfers.items ≤ b'.next) errands
 
 -- And its night: the tellers got all memory that they asked for, and what was left was resolved by their logs.
-pub record IsClosed {L : Type 0} (state : L → LogState) (knows : L → Type 0)
+pub record IsClosedByNight {L : Type 0} (state : L → LogState) (knows : L → Type 0)
     (loses : TranName → List Bool → L → L → Type 0) (reopens : L → L → Type 0) (b : Bank L) (errands : List Errands)
     (c : Closed) (outcomes : List Outcome) (b' : Bank L) : Type 0 where
   pub is_worked : IsWorkedDay state knows loses reopens b errands c b'
@@ -170,7 +170,7 @@ pub record IsClosedDay {L : Type 0} (state : L → LogState) (knows : L → Type
     (c : Closed) (b' : Bank L) : Type 0 where
   pub outcomes : List Outcome
   pub ended : All (λ o. is_done o.code ≡ true) outcomes
-  pub closed : IsClosed state knows loses reopens b errands c outcomes b'
+  pub closed : IsClosedByNight state knows loses reopens b errands c outcomes b'
 
 -- these are such days, one after the other, with what each was closed with
 abbrev pub AreClosed : {L : Type 0} → (L → LogState) → (L → Type 0) → (TranName → List Bool → L → L → Type 0)
@@ -214,8 +214,8 @@ abbrev pub has_account : Settling → ℕ → List ℕ → Bool
 has_account s m k = is_declared (last_in (find_manager m s.managers)) k
 
 -- Before a day: what the stores were left with, and what the logs have, is of earlier transfers.
-abbrev pub IsReady : {L : Type 0} → (L → LogState) → Bank L → Type 0
-IsReady state b =
+abbrev pub IsReadyForDay : {L : Type 0} → (L → LogState) → Bank L → Type 0
+IsReadyForDay state b =
     IsDawn state (managers_in b.settled) b.next (reopened_at b.settled.managers) (map (λ t. t.log) b.tellers.items)
 
 -- From one to the other these transfers were applied, each whole or not at all: the stores and their accounts are the
@@ -226,7 +226,7 @@ pub record IsMovedBy {L : Type 0} (state : L → LogState) (es : List (Transfer 
       → has_account b'.settled m k ≡ has_account b.settled m k
   pub balances : (m : ℕ) (k : List ℕ) → IsUpTo (managers_in b.settled) m → has_account b.settled m k ≡ true
       → balances_at b'.settled m k ≡ all_applied es (balances_at b.settled) m k
-  pub ready : IsReady state b'
+  pub ready : IsReadyForDay state b'
 
 -- what was told of a day's transfers, and what was found, teller by teller
 abbrev pub told_on : List Errands → List (Vec WorkOutcome Global) → List Bool → List (Transfer × Bool)

@@ -19,15 +19,17 @@ use Rattle.xa_switch.specs.Settled.{Settling, IsSettled, find_manager, sent}
 use Rattle.xa_log.specs.Log.{IsReadAs, LogState, Records, all_records, record_in}
 use Rattle.laws_commit.specs.Conservation.{NothingWasSent}
 use Rattle.laws_commit.specs.Cut.{is_recorded}
-use Rattle.laws_commit.specs.Resolution.{Continues, IsUseIn, OnlyResolves, ResolveCall, resolves, with_use}
+use Rattle.laws_commit.specs.Calls.{ResolveCall}
+use Rattle.laws_commit.specs.Resolution.{Continues, IsUseIn, OnlyResolves, resolves, with_use}
 use Rattle.xa_work.specs.declared.unit.WorkOutcome.{WorkOutcome}
-use Rattle.xa_work.specs.declared.unit.WorkOutcome.TheVariants.{Undecided}
+use Rattle.xa_driver.specs.declared.done.CommitOutcome.TheVariants.{Undecided}
+use Rattle.xa_work.specs.declared.unit.WorkOutcome.TheVariants.{Commit}
 use Rattle.xa_work.specs.Sent.{HaveSent}
-use Rattle.xa_work.specs.Units.{is_to_commit}
+use Rattle.xa_work.specs.Units.{decided_to_commit}
 use Rattle.demo_bank.specs.declared.teller.Teller.{Teller}
 use Rattle.demo_bank.specs.declared.teller.Transfer.{Transfer}
-use Rattle.demo_bank.specs.Tellers.{Works, has_undecided, last_number}
-use Rattle.demo_bank.specs.Transfers.{gtrid_of, tran_named}
+use Rattle.demo_bank.specs.Tellers.{TellerWorks, has_undecided, last_number}
+use Rattle.demo_bank.specs.Transfers.{gtrid_of, tran_of_transfer}
 use Rattle.demo_bank_days.specs.AbstractBank.{Balances}
 
 -- ---- what the tellers were told
@@ -35,8 +37,8 @@ use Rattle.demo_bank_days.specs.AbstractBank.{Balances}
 -- Whether a transfer is to be applied: it was decided to commit; or nobody knows whether its record was made, and the
 -- log, once it was opened again, was found to have it.
 abbrev pub is_applied : Bool → WorkOutcome → Bool
-is_applied found (Undecided votes) = found
-is_applied found o = is_to_commit o
+is_applied found (Commit (Undecided votes)) = found
+is_applied found o = decided_to_commit o
 
 -- the transfers that were made, each with whether it is to be applied
 abbrev pub told : Bool → List Transfer → List WorkOutcome → List (Transfer × Bool)
@@ -58,7 +60,7 @@ pub record WorkedIn {L : Type 0} (state : L → LogState) (knows : L → Type 0)
   pub left : DeskView
   pub thread : desk.thread ≡ t
   pub nothing : NothingWasSent desk.ledgers
-  pub worked : Works state knows loses old desk new left
+  pub worked : TellerWorks state knows loses old desk new left
   pub ended : HaveSent (λ op. ⊥) left.ledgers (ledgers_of s t)
 
 -- the teller at place k had thread k + 1, and no other thread sent anything
@@ -98,7 +100,7 @@ pub record IsReadBack {L : Type 0} (state : L → LogState) (knows : L → Type 
   pub same : has_undecided teller ≡ false → log ≡ teller.log
   pub read : knows log → IsReadAs state knows loses teller.log (state log)
   pub finds : knows log → has_undecided teller ≡ true → last_number teller < 2 ^ 32
-      → found ≡ is_recorded (state log) (tran_named t (last_number teller))
+      → found ≡ is_recorded (state log) (tran_of_transfer t (last_number teller))
 
 -- this holds of each teller, its log and what that was found to have, of the threads from t on
 abbrev pub ForEach : {L : Type 0} → (ℕ → Teller L → L → Bool → Type 0) → ℕ → List (Teller L) → List L → List Bool
@@ -116,23 +118,23 @@ AreReadBack state knows loses = ForEach (IsReadBack state knows loses)
 -- ---- between days
 
 -- the global transaction is thread t's transfer of number n
-pub record IsNamed (t n : ℕ) (gtrid : List ℕ) : Type 0 where
+pub record IsGtridOfTransfer (t n : ℕ) (gtrid : List ℕ) : Type 0 where
   pub small : n < 2 ^ 32
   pub gtrid_ : gtrid ≡ gtrid_of t n
 
 -- what these logs have, read as one
-abbrev pub records_of : {L : Type 0} → (L → LogState) → List L → Records
-records_of state logs = all_records (map (λ log. (state log).records) logs)
+abbrev pub records_of_logs : {L : Type 0} → (L → LogState) → List L → Records
+records_of_logs state logs = all_records (map (λ log. (state log).records) logs)
 
 -- Before a day whose transfers have numbers from n on: a branch that a store was left with is none of theirs, and no
 -- log has a record of it; and the log of each thread has records of that thread's earlier transfers alone.
 pub record IsDawn {L : Type 0} (state : L → LogState) (stores n : ℕ) (first : ℕ → Tables) (logs : List L) : Type 0 where
   pub fresh : (m : ℕ) (x : XidName) → IsUpTo stores m → exists (first m) x ≡ true
-      → (t k : ℕ) → 1 ≤ t → t ≤ length logs → IsNamed t k x.gtrid → k < n
+      → (t k : ℕ) → 1 ≤ t → t ≤ length logs → IsGtridOfTransfer t k x.gtrid → k < n
   pub unrecorded : (m : ℕ) (x : XidName) → IsUpTo stores m → exists (first m) x ≡ true
-      → record_in (records_of state logs) (tran_of x) ≡ None
+      → record_in (records_of_logs state logs) (tran_of x) ≡ None
   pub own : (j : ℕ) (log : L) (tran : TranName) → slice_get logs j ≡ Some log → is_recorded (state log) tran ≡ true
-      → (k : ℕ) × (k < n) × IsNamed (j + 1) k tran.gtrid
+      → (k : ℕ) × (k < n) × IsGtridOfTransfer (j + 1) k tran.gtrid
 
 -- ---- the night
 
@@ -171,7 +173,7 @@ pub record DayAndNight {L : Type 0} (state : L → LogState) (knows : L → Type
   pub back : AreReadBack state knows loses 1 news logs founds
   pub known : All knows logs
   pub dawn : IsDawn state stores first tables (map (λ t. t.log) olds)
-  pub resolved : IsResolvedBy (records_of state logs) day again resolve next
+  pub resolved : IsResolvedBy (records_of_logs state logs) day again resolve next
 
 -- ---- the balances
 

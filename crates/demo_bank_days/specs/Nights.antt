@@ -13,12 +13,13 @@ use Rattle.xa_scan.specs.Left.{ScanView, left_at}
 use Rattle.xa_log.specs.Log.{LogState}
 use Rattle.xa_driver.specs.declared.resolved.Outcome.{Outcome}
 use Rattle.xa_driver.specs.Resolving.{IsTraceOfResolve, MayResolve, requests_for}
-use Rattle.laws_commit.specs.Resolution.{Continues, ResolveCall}
+use Rattle.laws_commit.specs.Calls.{ResolveCall}
+use Rattle.laws_commit.specs.Resolution.{Continues}
 use Rattle.xa_crew_again.specs.declared.again.WithScan.{WithScan}
 use Rattle.xa_crew.specs.declared.run.Ran.{Ran}
 use Rattle.xa_crew_again.specs.Again.{HasRunAgain}
 use Rattle.demo_bank.specs.declared.teller.Teller.{Teller}
-use Rattle.demo_bank_days.specs.Days.{IsResolvedBy, records_of}
+use Rattle.demo_bank_days.specs.Days.{IsResolvedBy, records_of_logs}
 use Rattle.demo_bank_days.specs.declared.night.Night.{Night}
 use Rattle.demo_bank_days.specs.declared.night.Resolver.{Resolver}
 use Rattle.demo_bank_days.specs.declared.night.Unresolved.{Unresolved}
@@ -47,7 +48,8 @@ pub record ResolvesBy {L : Type 0} (state : L → LogState) (knows : L → Type 
   pub tellers : r'.tellers ≡ r.tellers
   pub scan : s' ≡ s
   pub came : IfOk r'.resolved (λ z. All (λ t. knows t.log) r.tellers.items
-      × IsTraceOfResolve s (records_of state (map (λ t. t.log) r.tellers.items)) d.ledgers d'.ledgers z.outcomes.items)
+      × IsTraceOfResolve s (records_of_logs state
+      (map (λ t. t.log) r.tellers.items)) d.ledgers d'.ledgers z.outcomes.items)
   pub left : IfErr r'.resolved (λ why. (d' ≡ d)
       × Excuses ⊥ (All (λ t. knows t.log) r.tellers.items) (MayResolve d s) (Unit {0}) why)
 
@@ -58,7 +60,7 @@ pub record IsNight {L : Type 0} (state : L → LogState) (knows : L → Type 0) 
   pub known : All (λ t. knows t.log) tellers
   pub call : ResolveCall
   pub listed : call.outcomes ≡ outcomes
-  pub resolves : IsResolvedBy (records_of state (map (λ t. t.log) tellers)) s again call next
+  pub resolves : IsResolvedBy (records_of_logs state (map (λ t. t.log) tellers)) s again call next
 
 -- What came to the stores of an opening that was settled so, in a night that resolved nothing: they are as they were;
 -- or they were opened again and settled in turn, and no thread sent anything.

@@ -5,9 +5,9 @@ ghost use Rattle.xa_switch.specs.Plans.{IsSound};
 ghost use Rattle.demo_bank_days.specs.Banks.{IsGoodDay, IsOpenedBank, next_numbers};
 
 use crate::errands::{Errands, most};
+use demo_bank::Teller;
 use std::alloc::Global;
 use std::sync::Wait;
-use demo_bank::Teller;
 use xa_crew::laws::idles_go_on;
 use xa_crew::{Client, CrewFault, run_clients_in_turns};
 use xa_desk::laws::desks_go_on;

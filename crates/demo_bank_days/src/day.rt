@@ -4,18 +4,18 @@ ghost use Rattle.std.specs.List.{list_any};
 ghost use Rattle.xa_switch.specs.Reopening.{MayReopen, managers_in};
 ghost use Rattle.demo_bank.specs.Tellers.{ReadsBack};
 ghost use Rattle.demo_bank_days.specs.Days.{ForEach};
-ghost use Rattle.demo_bank_days.specs.Banks.{HasRoom, HasWorked, IsClosed, IsOver, IsUnresolved, IsWorkedDay, LeavesBank};
-ghost use Rattle.demo_bank_days.specs.Banks.{LeavesDay, next_numbers};
+ghost use Rattle.demo_bank_days.specs.Banks.{HasRoomForTellers, TellersHaveWorked, IsClosedByNight, IsOver};
+ghost use Rattle.demo_bank_days.specs.Banks.{IsUnresolved, IsWorkedDay, LeavesBank, LeavesDay, next_numbers};
 ghost use Rattle.demo_bank_days.specs.Nights.{HasPassed, IsUnsettledNight};
 
 use crate::bank::{Bank, next_numbers};
 use crate::errands::{Errands, turn_all};
 use crate::night::{Night, Resolver, Unresolved, run_night};
+use demo_bank::Teller;
 use std::alloc::{AllocError, Global};
 use std::mem;
 use std::sync::Wait;
 use std::thread::Threads;
-use demo_bank::Teller;
 use xa_crew::{Attended, Ran, Run};
 use xa_crew_again::{AgainFault, WithScan, run_clients_again};
 use xa_driver::Resolved;
@@ -86,7 +86,7 @@ fn reserve<L: Drop>(
     ensures none { IfOk result (λ r. r.0.items ≡ []) }
     ensures turned { IfOk result (λ r. tellers ≤ vec_capacity r.0) }
     ensures paces { IfOk result (λ r. stores ≤ length r.1.items) }
-    ensures room { IfOk result (λ r. HasRoom tellers r.2) }
+    ensures room { IfOk result (λ r. HasRoomForTellers tellers r.2) }
 {
     let evening = Evening {
         tellers: Vec::with_capacity(alloc, tellers)?,
@@ -111,7 +111,7 @@ fn all_off_work<L: ReopenLog + Drop>(
     mut evening: Evening<L>,
 ) -> Evening<L>
     requires few { length clients.items < 2 ^ 32 }
-    requires room { HasRoom (length clients.items) evening }
+    requires room { HasRoomForTellers (length clients.items) evening }
     ensures logs { ForEach (ReadsBack L.state L.knows L.loses L.reopens) 1 (map (λ a. a.client.client) clients.items)
         (map (λ t. t.log) result.tellers.items) result.found.items }
     ensures outcomes { result.outcomes.items ≡ map (λ a. a.client.client.outcomes) clients.items }
@@ -150,8 +150,8 @@ fn work_day<R: Threads + Wait + Copy + Send + 'static, L: ReopenLog + Drop + Sen
     requires tellers { length tellers.items ≡ again.now.threads }
     requires few { length tellers.items < 2 ^ 32 }
     requires paces { managers_in settled ≤ length paces.items }
-    requires room { HasRoom (length tellers.items) evening }
-    ensures worked { IfOk result (HasWorked L.state L.knows L.loses L.reopens settled tellers.items) }
+    requires room { HasRoomForTellers (length tellers.items) evening }
+    ensures worked { IfOk result (TellersHaveWorked L.state L.knows L.loses L.reopens settled tellers.items) }
     ensures night { IfOk result (λ w. MayReopen w.settled (next_numbers again.now 1)) }
     ensures stopped { IfErr result (LeavesDay L.state L.knows L.loses settled again.now tellers.items) }
 {
@@ -210,7 +210,8 @@ impl<L: ReopenLog + Drop + Send + 'static> Bank<L> {
         errands: Vec<Errands>,
     ) -> Result<(Closed, Bank<L>), Stop<L>>
         ensures worked { IfOk result (λ r. IsWorkedDay L.state L.knows L.loses L.reopens self errands.items r.0 r.1) }
-        ensures closed { IfOk result (λ r. IfOk r.0.resolved (λ z. IsClosed L.state L.knows L.loses L.reopens self
+        ensures closed { IfOk result
+            (λ r. IfOk r.0.resolved (λ z. IsClosedByNight L.state L.knows L.loses L.reopens self
             errands.items r.0 z.outcomes.items r.1)) }
         ensures unresolved { IfOk result (λ r. IfErr r.0.resolved (λ why. IsUnresolved L.state L.knows L.loses L.reopens
             self errands.items r.0 why r.1)) }

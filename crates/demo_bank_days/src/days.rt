@@ -1,6 +1,6 @@
 //! Days of the bank, one after the other.
 ghost use Rattle.std.specs.Prelude.{IfErr, IfOk};
-ghost use Rattle.demo_bank_days.specs.Banks.{AreOver, HasEnded, HasStopped, IsMovedBy, IsReady, told_over};
+ghost use Rattle.demo_bank_days.specs.Banks.{AreOver, HasEnded, HasStopped, IsMovedBy, IsReadyForDay, told_over};
 
 use crate::bank::Bank;
 use crate::day::{Closed, Stop};
@@ -69,7 +69,7 @@ pub fn run_days<R: Threads + Wait + Copy + Send + 'static, L: ReopenLog + Drop +
     ensures ended { IfOk result.end (HasEnded L.state L.knows L.loses L.reopens bank days.items result.closed.items) }
     ensures stopped { IfErr result.end (HasStopped L.state L.knows L.loses L.reopens bank days.items
         result.closed.items) }
-    ensures moved { IfOk result.end (λ after. AreOver days.items result.closed.items → IsReady L.state bank
+    ensures moved { IfOk result.end (λ after. AreOver days.items result.closed.items → IsReadyForDay L.state bank
         → IsMovedBy L.state (told_over days.items result.closed.items) bank after) }
 {
     a_day_applies_its_transfers::<L>();

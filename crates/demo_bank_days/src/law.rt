@@ -12,11 +12,11 @@ ghost use Rattle.demo_bank.specs.declared.teller.Teller.{Teller};
 ghost use Rattle.demo_bank.specs.declared.teller.Transfer.{Transfer};
 ghost use Rattle.demo_bank_days.specs.declared.bank.Bank.{Bank};
 ghost use Rattle.demo_bank_days.specs.Days.{DayAndNight, IsDawn, all_told, balances_at, balances_of};
-ghost use Rattle.demo_bank_days.specs.Banks.{HaveNoRecord, IsMovedBy, IsOpenedBank, IsReady, IsWithin};
+ghost use Rattle.demo_bank_days.specs.Banks.{HaveNoRecord, IsMovedBy, IsOpenedBank, IsReadyForDay, IsWithin};
 ghost use Rattle.demo_bank_days.specs.AbstractBank.{all_applied};
 
-use laws_commit::finished_outcomes_leave_no_branch;
 use laws_balances::branches_come_out_by_the_log;
+use laws_commit::finished_outcomes_leave_no_branch;
 use xa_log::DecisionLog;
 use xa_log::laws::several_logs_are_read_as_one;
 
@@ -42,7 +42,7 @@ pub fn a_day_applies_its_transfers<L: DecisionLog>()
 /// A bank that was opened for a plan, whose tellers' logs have no record, is ready for its first day.
 pub fn opened_banks_are_ready<L: DecisionLog>()
     ensures { (p : Plan) (tellers : List (Teller L)) (b : Bank L) → IsOpenedBank p tellers b
-        → HaveNoRecord L.state tellers → IsReady L.state b }
+        → HaveNoRecord L.state tellers → IsReadyForDay L.state b }
 {}
 
 /// Whatever transfers were applied since a bank was opened for a plan, as long as both stores of each have its account:

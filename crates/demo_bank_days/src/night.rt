@@ -5,13 +5,13 @@ ghost use Rattle.xa_desk.specs.GoingOn.{GoesOn};
 ghost use Rattle.xa_desk.specs.Kept.{AllKept};
 ghost use Rattle.xa_driver.specs.Resolving.{IsTraceOfResolve, MayResolve};
 ghost use Rattle.xa_switch.specs.Reopening.{MayReopen};
-ghost use Rattle.demo_bank_days.specs.Days.{records_of};
+ghost use Rattle.demo_bank_days.specs.Days.{records_of_logs};
 ghost use Rattle.demo_bank_days.specs.Nights.{Excuses, HasRoomToResolve, IsNight, IsUnsettledNight};
 ghost use Rattle.demo_bank_days.specs.Nights.{IsUntouched};
 
+use demo_bank::Teller;
 use std::alloc::Global;
 use std::sync::Wait;
-use demo_bank::Teller;
 use xa_crew::Ran;
 use xa_crew::laws::idles_go_on;
 use xa_crew_again::{AgainFault, ClientAgain, WithScan, run_clients_again_in_turns};
@@ -61,7 +61,8 @@ impl<L: DecisionLog + Drop> Resolver<L> {
         ensures kept { AllKept desk.old → AllKept desk.new }
         ensures idled { I.leads idle.old idle.new }
         ensures came { IfOk result (λ z. All (λ t. L.knows t.log) self.now.tellers.items
-            × IsTraceOfResolve scan.now (records_of L.state (map (λ t. t.log) self.now.tellers.items)) desk.old.ledgers
+            × IsTraceOfResolve scan.now
+            (records_of_logs L.state (map (λ t. t.log) self.now.tellers.items)) desk.old.ledgers
             desk.new.ledgers z.outcomes.items) }
         ensures left { IfErr result (λ why. (desk.new ≡ desk.old)
             × Excuses ⊥ (All (λ t. L.knows t.log) self.now.tellers.items) (MayResolve desk.old scan.now) (Unit {0})

@@ -26,9 +26,9 @@ abbrev pub OnlyTold : XidName → History → Type 0
 OnlyTold x h = All (λ r. names x r.op ≡ true → tells_outcome r.op ≡ true) h
 
 -- it ended by a Commit
-abbrev pub is_committed : Fate → Bool
-is_committed Committed = true
-is_committed f = false
+abbrev pub ended_by_commit : Fate → Bool
+ended_by_commit Committed = true
+ended_by_commit f = false
 
 -- it ended as a coordinator decided, and not by a decision of its manager's own
 abbrev pub is_outcome : Fate → Bool
@@ -37,8 +37,8 @@ is_outcome RolledBack = true
 is_outcome f = false
 
 -- or it is still in doubt
-abbrev pub is_undecided : Fate → Bool
-is_undecided f = is_outcome f || is_in_doubt f
+abbrev pub is_outcome_or_in_doubt : Fate → Bool
+is_outcome_or_in_doubt f = is_outcome f || is_in_doubt f
 
 -- In an opening that begins with T and has this history, x votes to commit: a Prepare is answered XA_OK, before which
 -- nothing commits it, and after which it is only told its outcome.
@@ -59,4 +59,4 @@ voted_sum accounts x h T votes = held_by accounts x (tables_after votes.before T
 -- In openings with these histories the requests that name x move so much, where it's committed, and nothing else.
 abbrev pub MovesWhereCommitted : List (List ℕ × ℕ) → XidName → ℤ → Fate → List History → Tables → Type 0
 MovesWhereCommitted accounts x sum f hs T =
-    moved_over accounts (is_for x) hs T ≡ (if is_committed (fate_left x f hs T) then sum else pos 0)
+    moved_over accounts (is_for x) hs T ≡ (if ended_by_commit (fate_left x f hs T) then sum else pos 0)

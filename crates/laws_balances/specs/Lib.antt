@@ -7,8 +7,9 @@ pub mod Recorded
 pub mod Legs
 -- The words of this crate, by its name.
 pub use MovedOver.{CommitsAmong, CommitsNowhere, is_for, moved_over}
-pub use Course.{MovesWhereCommitted, OnlyTold, Votes, is_committed, is_outcome, is_undecided, tells_outcome, voted_sum}
-pub use Days.{ComesOut, IsDay, Leg, WorthIsOfBranches, WorthIsRecorded, counted}
+pub use Course.{MovesWhereCommitted, OnlyTold, Votes, ended_by_commit, is_outcome, is_outcome_or_in_doubt}
+pub use Course.{tells_outcome, voted_sum}
+pub use Days.{ComesOut, IsDay, DayLeg, WorthIsOfBranches, WorthIsRecorded, counted_for}
 pub use SettledDays.{ComesOutByTheLog, IsSettledDay, SettledWorthIsRecorded, branch_at}
 pub use Calls.{CommitsInCall, DecidesNowhere, IsMarkedNowhere, VotedInCall, taken_till_asked}
 pub use Recorded.{AgreedOrRead, OnlyRead, agreed, read}

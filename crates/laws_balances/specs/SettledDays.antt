@@ -13,7 +13,7 @@ use Rattle.laws_commit.specs.Resolution.{Opening, EndsAs, last_of, tables_left}
 use Rattle.laws_commit.specs.Worth.{histories}
 use Rattle.laws_balances.specs.MovedOver.{CommitsNowhere, CommitsAmong}
 use Rattle.laws_balances.specs.Course.{Votes, voted_sum, OnlyTold}
-use Rattle.laws_balances.specs.Days.{Leg, counted}
+use Rattle.laws_balances.specs.Days.{DayLeg, counted_for}
 
 -- the branch with this name at manager m
 abbrev pub branch_at : ℕ → XidName → Branch
@@ -21,25 +21,25 @@ branch_at m x = record { m = m; xid = x }
 
 -- How a branch at manager m came out, in the opening o, where the manager began with T, and those after it.
 pub data ComesOutByTheLog (accounts : List (List ℕ × ℕ)) (m : ℕ) (T : Tables) (o : Opening) (later : List Opening)
-    (g : Leg) : Type 0 where
+    (g : DayLeg) : Type 0 where
   -- it didn't exist before; it voted to commit, was only told its outcome from then on, and ended by the record
   voted : state_of T g.xid ≡ None → (votes : Votes g.xid (history o.settled m) T)
       → All (OnlyTold g.xid) (histories m later) → (known : Ending)
       → EndsAs g.recorded o later (branch_at m g.xid) known
       → g.sum ≡ voted_sum accounts g.xid (history o.settled m) T votes → ComesOutByTheLog accounts m T o later g
   -- nothing commits it, as a branch that changed nothing or whose transaction isn't recorded, and it counts for nothing
-  unasked : All (CommitsNowhere g.xid) (histories m (o ∷ later)) → counted g ≡ pos 0
+  unasked : All (CommitsNowhere g.xid) (histories m (o ∷ later)) → counted_for g ≡ pos 0
       → ComesOutByTheLog accounts m T o later g
 
 -- Openings at manager m, from the tables T on: all that is committed is of these branches.
 pub record IsSettledDay (accounts : List (List ℕ × ℕ)) (m : ℕ) (T : Tables) (o : Opening) (later : List Opening)
-    (legs : List Leg) : Type 0 where
+    (legs : List DayLeg) : Type 0 where
   pub distinct : IsDistinct xid_eq (map (λ g. g.xid) legs)
   pub among : All (CommitsAmong (map (λ g. g.xid) legs)) (histories m (o ∷ later))
   pub each : All (ComesOutByTheLog accounts m T o later) legs
 
 -- the worth in the manager's last tables is what it was before and what the branches of recorded transactions counted
 -- for
-abbrev pub SettledWorthIsRecorded : List (List ℕ × ℕ) → ℕ → Tables → Opening → List Opening → List Leg → Type 0
+abbrev pub SettledWorthIsRecorded : List (List ℕ × ℕ) → ℕ → Tables → Opening → List Opening → List DayLeg → Type 0
 SettledWorthIsRecorded accounts m T o later legs =
-    worth accounts (tables_left (last_of o later) m) ≡ worth accounts T +ℤ total counted legs
+    worth accounts (tables_left (last_of o later) m) ≡ worth accounts T +ℤ total counted_for legs

@@ -12,19 +12,20 @@ ghost use Rattle.xa_tables.specs.ManagerTables.{Tables};
 ghost use Rattle.xa_tables.specs.Histories.{History, tables_after};
 ghost use Rattle.xa_tables.specs.Openings.{IsOpening};
 ghost use Rattle.xa_tables.specs.Worth.{held_by};
-ghost use Rattle.xa_desk.specs.DeskViews.{ledger};
 ghost use Rattle.xa_switch.specs.Settled.{Settling, IsSettled};
 ghost use Rattle.xa_switch.specs.Fates.{first_of, history};
 ghost use Rattle.xa_driver.specs.declared.branch.Branch.{Branch};
 ghost use Rattle.xa_driver.specs.Commits.{HasSentNone};
 ghost use Rattle.xa_driver.specs.Trace.{IsTranOf};
 ghost use Rattle.laws_commit.specs.Cut.{is_commit_of, is_recorded};
-ghost use Rattle.laws_commit.specs.Presumed.{AskedAreLeft, VotedToCommit};
-ghost use Rattle.laws_commit.specs.Resolution.{CutCall, IsKept, IsUseIn, OnlyResolves, Opening, cuts};
+ghost use Rattle.laws_commit.specs.Calls.{CommitCall, after_at, before_at};
+ghost use Rattle.laws_commit.specs.Presumed.{VotedToCommit};
+ghost use Rattle.laws_commit.specs.Resolution.{AskedAreLeft, IsKept, IsUseIn, OnlyResolves, Opening, commits};
 ghost use Rattle.laws_balances.specs.MovedOver.{CommitsNowhere};
 ghost use Rattle.laws_balances.specs.Course.{OnlyTold};
 ghost use Rattle.laws_balances.specs.Recorded.{AgreedOrRead};
-ghost use Rattle.laws_balances.specs.Calls.{CommitsInCall, DecidesNowhere, IsMarkedNowhere, VotedInCall, taken_till_asked};
+ghost use Rattle.laws_balances.specs.Calls.{CommitsInCall, DecidesNowhere, IsMarkedNowhere, VotedInCall};
+ghost use Rattle.laws_balances.specs.Calls.{taken_till_asked};
 
 use laws_commit::tables_keep_to_their_laws;
 
@@ -33,7 +34,7 @@ use laws_commit::tables_keep_to_their_laws;
 /// before, and no manager decides it.
 #[tactic(auto, using(crate::proofs::Legs::voted_in_call))]
 pub fn branches_of_a_commit_vote()
-    ensures { (s : Settling) (k : CutCall) (b : Branch) (T : Tables) → IsSettled s → IsUseIn s (cuts k)
+    ensures { (s : Settling) (k : CommitCall) (b : Branch) (T : Tables) → IsSettled s → IsUseIn s (commits k)
         → Contains k.branches b → VotedToCommit k s b → AskedAreLeft k s → first_of s b.m ≡ Some T
         → DecidesNowhere b.xid (history s b.m) → CommitsNowhere b.xid (taken_till_asked k s b)
         → VotedInCall k s b T }
@@ -54,11 +55,12 @@ pub fn resolves_only_tell_outcomes()
 /// A branch is committed nowhere in a settled opening to which its commit sent no Commit of it, if nobody else commits
 /// it: so each branch of a transaction of which the log has no record.
 pub fn branches_that_are_not_told_to_commit_are_not_committed()
-    ensures unsent { (s : Settling) (k : CutCall) (b : Branch) → IsSettled s → IsUseIn s (cuts k) → 1 ≤ b.m
-        → HasSentNone (is_commit_of b.xid) (ledger k.desk.ledgers b.m) (ledger k.new b.m) → CommitsInCall k s b
+    ensures unsent { (s : Settling) (k : CommitCall) (b : Branch) → IsSettled s → IsUseIn s (commits k) → 1 ≤ b.m
+        → HasSentNone (is_commit_of b.xid) (before_at k b) (after_at k b) → CommitsInCall k s b
         → CommitsNowhere b.xid (history s b.m) }
-    ensures unrecorded { (s : Settling) (k : CutCall) (b : Branch) (t : TranName) → IsSettled s → IsUseIn s (cuts k)
-        → Contains k.branches b → IsTranOf k.branches t → is_recorded k.later t ≡ false → CommitsInCall k s b
+    ensures unrecorded { (s : Settling) (k : CommitCall) (b : Branch) (t : TranName) → IsSettled s
+        → IsUseIn s (commits k) → Contains k.branches b → IsTranOf k.branches t → is_recorded k.later t ≡ false
+        → CommitsInCall k s b
         → CommitsNowhere b.xid (history s b.m) }
 {}
 
@@ -66,7 +68,7 @@ pub fn branches_that_are_not_told_to_commit_are_not_committed()
 /// or had changed nothing.
 #[tactic(auto, using(crate::proofs::Legs::recorded_law))]
 pub fn recorded_branches_agreed_or_read()
-    ensures { (s : Settling) (k : CutCall) (t : TranName) → IsUseIn s (cuts k) → IsTranOf k.branches t
+    ensures { (s : Settling) (k : CommitCall) (t : TranName) → IsUseIn s (commits k) → IsTranOf k.branches t
         → is_recorded k.later t ≡ true → All (AgreedOrRead k s) k.branches }
 {}
 

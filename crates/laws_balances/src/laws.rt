@@ -8,8 +8,8 @@ ghost use Rattle.xa_tables.specs.Openings.{IsOpening, fate_left};
 ghost use Rattle.xa_tables.specs.Prepared.{IsPrepared};
 ghost use Rattle.xa_tables.specs.Worth.{DeclareEach, held_by};
 ghost use Rattle.laws_balances.specs.MovedOver.{moved_over, is_for, CommitsNowhere, CommitsAmong};
-ghost use Rattle.laws_balances.specs.Course.{Votes, is_undecided, OnlyTold, MovesWhereCommitted, voted_sum};
-ghost use Rattle.laws_balances.specs.Days.{WorthIsOfBranches, WorthIsRecorded, IsDay, Leg};
+ghost use Rattle.laws_balances.specs.Course.{Votes, is_outcome_or_in_doubt, OnlyTold, MovesWhereCommitted, voted_sum};
+ghost use Rattle.laws_balances.specs.Days.{WorthIsOfBranches, WorthIsRecorded, IsDay, DayLeg};
 
 /// A branch that votes to commit moves what it held as it was asked, if a Commit ends it, in its own opening or in a
 /// later one, and else nothing. So does one that an opening finds prepared.
@@ -28,7 +28,7 @@ pub fn voted_branches_move_what_they_held()
 #[tactic(auto, using(crate::proofs::Course::undecided_law, crate::proofs::Course::ended_law))]
 pub fn voted_branches_end_as_they_were_told()
     ensures undecided { (x : XidName) (f : Fate) (h : History) (later : List History) (T : Tables) → Votes x h T
-        → IsOpening T → All (OnlyTold x) later → is_undecided (fate_left x f (h ∷ later) T) ≡ true }
+        → IsOpening T → All (OnlyTold x) later → is_outcome_or_in_doubt (fate_left x f (h ∷ later) T) ≡ true }
     ensures ended { (x : XidName) (f : Fate) (h : History) (later : List History) (T : Tables) → Votes x h T
         → IsOpening T → All (OnlyTold x) later → is_in_doubt (fate x f h T) ≡ false
         → fate_left x f (h ∷ later) T ≡ fate x f h T }
@@ -54,7 +54,7 @@ pub fn branches_move_the_worth_over_openings()
 /// each branch whose transaction was recorded, what it held as it voted.
 #[tactic(auto, using(crate::proofs::InARow::day_law))]
 pub fn recorded_branches_are_what_a_day_moves()
-    ensures { (accounts : List (List ℕ × ℕ)) (T : Tables) (h : History) (later : List History) (legs : List Leg)
+    ensures { (accounts : List (List ℕ × ℕ)) (T : Tables) (h : History) (later : List History) (legs : List DayLeg)
         → IsOpening T → DeclareEach accounts T → IsDay accounts T h later legs
         → WorthIsRecorded accounts T h later legs }
 {}

@@ -12,7 +12,7 @@ use Rattle.xa_switch.specs.Settled.{Settling}
 use Rattle.xa_switch.specs.Fates.{IsOpenedWith, history}
 use Rattle.xa_driver.specs.declared.branch.Branch.{Branch}
 use Rattle.xa_driver.specs.declared.done.Done.{Done}
-use Rattle.laws_commit.specs.Outcomes.{EachOutcome, has_committed, is_committed, is_in_doubt, is_left}
+use Rattle.laws_commit.specs.Outcomes.{EachOutcome, has_committed, ends_committed, ends_in_doubt, ends_left}
 
 -- thread t's Prepare of the branch, with number n
 abbrev pub prepare_of : ℕ → ℕ → XidName → Request
@@ -47,11 +47,11 @@ Shares s t b n counts =
 -- Of each branch of a commit, before which thread t had sent each manager so many requests, the additions count exactly
 -- where the branch was committed.
 pub record CountsTheCommitted (s : Settling) (t : ℕ) (bs : List Branch) (from : ℕ → ℕ) (d : Done) : Type 0 where
-  pub each : EachOutcome (λ b v e. Shares s t b (from b.m) (is_committed e)) bs d.votes.items d.endings.items
+  pub each : EachOutcome (λ b v e. Shares s t b (from b.m) (ends_committed e)) bs d.votes.items d.endings.items
 
 -- no branch of the call is in doubt, or left
-abbrev pub is_decided : Done → Bool
-is_decided d = not (list_any is_in_doubt d.endings.items || list_any is_left d.endings.items)
+abbrev pub is_decided_everywhere : Done → Bool
+is_decided_everywhere d = not (list_any ends_in_doubt d.endings.items || list_any ends_left d.endings.items)
 
 -- All additions of the transaction count, where a branch was committed, or none does.
 pub record HasAllOrNothing (s : Settling) (t : ℕ) (bs : List Branch) (from : ℕ → ℕ) (d : Done) : Type 0 where

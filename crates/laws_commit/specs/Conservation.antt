@@ -17,7 +17,7 @@ use Rattle.xa_driver.specs.declared.done.Ending.{Ending}
 use Rattle.xa_log.specs.Log.{LogState}
 use Rattle.xa_driver.specs.Trace.{IsCommit}
 use Rattle.xa_driver.specs.Commits.{NoCommitWasSent}
-use Rattle.laws_commit.specs.Outcomes.{AreLeftAlone, has_committed, is_in_doubt}
+use Rattle.laws_commit.specs.Outcomes.{AreLeftAlone, has_committed, ends_in_doubt}
 use Rattle.xa_driver.specs.Deaths.{sent_so_far}
 
 -- the requests of a history before thread t's of number n
@@ -40,7 +40,7 @@ added_by_all p s t old bs = total (added_before p s t old) bs
 abbrev pub total_in_doubt : (Branch → ℤ) → List Branch → List Ending → ℤ
 total_in_doubt f [] es = pos 0
 total_in_doubt f (b ∷ bs) [] = pos 0
-total_in_doubt f (b ∷ bs) (e ∷ es) = (if is_in_doubt e then f b else pos 0) +ℤ total_in_doubt f bs es
+total_in_doubt f (b ∷ bs) (e ∷ es) = (if ends_in_doubt e then f b else pos 0) +ℤ total_in_doubt f bs es
 
 -- What is missing at the end of a transaction that was committed: what its branches in doubt hold. Where no branch was
 -- committed nothing is.

@@ -10,18 +10,22 @@ use Rattle.xa_words.specs.declared.request.Op.{Op}
 use Rattle.xa_words.specs.declared.request.Op.TheVariants.{Prepare, Rollback}
 use Rattle.xa_tables.specs.Prepared.{names}
 use Rattle.xa_desk.specs.LedgerViews.{LedgerView}
-use Rattle.xa_desk.specs.DeskViews.{DeskView, ledger}
+use Rattle.xa_desk.specs.DeskViews.{ledger}
 use Rattle.xa_driver.specs.declared.branch.Branch.{Branch}
+use Rattle.xa_driver.specs.declared.done.CommitOutcome.{CommitOutcome}
+use Rattle.xa_driver.specs.declared.done.CommitOutcome.TheVariants as outcome
 use Rattle.xa_driver.specs.declared.done.Ending.{Ending}
 use Rattle.xa_driver.specs.declared.done.Ending.TheVariants.{InDoubt}
 use Rattle.xa_driver.specs.Commits.{HasSentNone, NoCommitWasSent, is_commit}
 use Rattle.xa_driver.specs.Decision.{yes_of}
 use Rattle.xa_driver.specs.Course.{VotesThen}
 use Rattle.xa_driver.specs.Endings.{third_op, ending_of}
+use Rattle.xa_driver.specs.Outcomes.{endings_known}
 use Rattle.xa_driver.specs.Resolving.{AsksLedger}
-use Rattle.xa_log.specs.Log.{LogState, record_of}
+use Rattle.xa_log.specs.Log.{IsEither, LogState, record_of}
 use Rattle.xa_driver.specs.Asks.{AskTrace, IsBegun}
-use Rattle.xa_driver.specs.Trace.{EachBranch, Logs, MayCommit, decision_of}
+use Rattle.xa_driver.specs.Trace.{EachBranch, IsDecidedBy, MayCommit}
+use Rattle.laws_commit.specs.Calls.{CommitCall, after_at, before_at}
 
 -- ---- between the requests of one branch
 
@@ -73,30 +77,33 @@ EachVote P bs vs = ⊥
 
 -- ---- all branches
 
+-- All had voted, and this was decided by their votes, and the log's taking of the record.
+pub record DecisionOf (tran : TranName) (c : CommitCall) : Type 0 where
+  pub votes : List Code
+  pub commit : Bool
+  pub logged : Bool
+  pub decided : IsDecidedBy tran c.branches c.log c.later votes commit logged
+  pub open decided use *
+
 -- How far it came, and which endings its coordinator knew. It was asking for votes: nothing was decided, and the log is
--- as it was. It was telling the decision, which all votes made, and the log's taking of the record. Or all were told,
--- and it had some forget what they had decided themselves.
-pub data CameSoFar (tran : TranName) (bs : List Branch) (old new : List LedgerView) (log later : LogState)
-    (endings : List Ending) : Type 0 where
-  asking : later ≡ log → endings ≡ [] → All (λ b. IsAsked b (ledger old b.m) (ledger new b.m)) bs
-      → CameSoFar tran bs old new log later endings
-  telling : (votes : List Code) (logged : Bool) → Logs tran (yes_of bs votes) votes logged log later → endings ≡ []
-      → EachVote (λ b v. IsTold (decision_of votes logged) b v (ledger old b.m) (ledger new b.m)) bs votes
-      → CameSoFar tran bs old new log later endings
-  forgetting : (votes : List Code) (logged : Bool) (seconds : List (Option Code))
-      → Logs tran (yes_of bs votes) votes logged log later
-      → EachBranch (λ b v s e. IsEnded (decision_of votes logged) b v s e (ledger old b.m) (ledger new b.m)) bs votes
-      seconds endings
-      → CameSoFar tran bs old new log later endings
+-- as it was. It was telling the decision. Or all were told, and it had some forget what they had decided themselves.
+pub data CameSoFar (tran : TranName) (c : CommitCall) : Type 0 where
+  asking : c.later ≡ c.log → c.endings ≡ [] → All (λ b. IsAsked b (before_at c b) (after_at c b)) c.branches
+      → CameSoFar tran c
+  telling : (d : DecisionOf tran c) → c.endings ≡ []
+      → EachVote (λ b v. IsTold d.commit b v (before_at c b) (after_at c b)) c.branches d.votes → CameSoFar tran c
+  forgetting : (d : DecisionOf tran c) (seconds : List (Option Code))
+      → EachBranch (λ b v s e. IsEnded d.commit b v s e (before_at c b) (after_at c b)) c.branches d.votes seconds
+      c.endings
+      → CameSoFar tran c
 
 -- A commit of the branches was begun, and cut short: it might be made, and the branches' managers and the log have what
 -- it came to. The log is as the decision found it. What else its thread did meanwhile is anything that names none of
 -- the branches at its manager.
-pub record IsCut (bs : List Branch) (desk : DeskView) (new : List LedgerView) (log later : LogState)
-    (endings : List Ending) : Type 0 where
-  pub may : MayCommit desk log bs
-  pub far : CameSoFar may.tran bs desk.ledgers new log later endings
-  pub managers : length new ≡ length desk.ledgers
+pub record IsCut (c : CommitCall) : Type 0 where
+  pub may : MayCommit c.desk c.log c.branches
+  pub far : CameSoFar may.tran c
+  pub managers : length c.new ≡ length c.desk.ledgers
 
 -- ---- what else may be done between two stages
 
@@ -108,6 +115,21 @@ pub record LeavesBranches (bs : List Branch) (old new : List LedgerView) : Type 
 -- no branch of the first is one of the second
 abbrev pub AreOthers : List Branch → List Branch → Type 0
 AreOthers bs cs = All (λ b. All (λ c. c.xid ≢ b.xid) cs) bs
+
+-- ---- what a commit came to
+
+-- the endings that are known of it then
+abbrev pub endings_of : CommitOutcome → List Ending
+endings_of (outcome.Decided done) = done.endings.items
+endings_of (outcome.Undecided votes) = []
+endings_of (outcome.Died at known) = endings_known known
+
+-- What the log turns out to have after it: what the commit left; or where nobody knew whether it has the record, what
+-- it had before, with that record or without it.
+abbrev pub TurnsOut : TranName → List Branch → LogState → LogState → LogState → CommitOutcome → Type 0
+TurnsOut tran bs log later found (outcome.Decided done) = found ≡ later
+TurnsOut tran bs log later found (outcome.Undecided votes) = IsEither log found tran (yes_of bs votes.items)
+TurnsOut tran bs log later found (outcome.Died at known) = found ≡ later
 
 -- ---- what its coordinator knew
 
@@ -141,12 +163,12 @@ abbrev pub is_rollback_of : XidName → Op → Bool
 is_rollback_of x op = names x op && is_rollback op
 
 -- to no branch's manager a Commit of the branch was sent
-abbrev pub NoneWasToldToCommit : List Branch → List LedgerView → List LedgerView → Type 0
-NoneWasToldToCommit bs old new = All (λ b. HasSentNone (is_commit_of b.xid) (ledger old b.m) (ledger new b.m)) bs
+abbrev pub NoneWasToldToCommit : CommitCall → Type 0
+NoneWasToldToCommit c = All (λ b. HasSentNone (is_commit_of b.xid) (before_at c b) (after_at c b)) c.branches
 
 -- to none a Rollback of it
-abbrev pub NoneWasToldToRollBack : List Branch → List LedgerView → List LedgerView → Type 0
-NoneWasToldToRollBack bs old new = All (λ b. HasSentNone (is_rollback_of b.xid) (ledger old b.m) (ledger new b.m)) bs
+abbrev pub NoneWasToldToRollBack : CommitCall → Type 0
+NoneWasToldToRollBack c = All (λ b. HasSentNone (is_rollback_of b.xid) (before_at c b) (after_at c b)) c.branches
 
 -- By whether there is a record: without one no Commit was sent to any manager, and with one no Rollback.
 pub record GoesByTheRecord (is_there : Bool) (old new : List LedgerView) : Type 0 where

@@ -12,9 +12,9 @@ use Rattle.xa_tables.specs.Next.{next}
 use Rattle.xa_tables.specs.Histories.{History, Fate, fate, fate_in, fates_in, coded, tables_after}
 use Rattle.xa_words.specs.Codes.{is_rolled_back}
 use Rattle.xa_tables.specs.Histories.{EndsNowhere, IsFateOf}
-use Rattle.xa_tables.specs.Openings.{IsOpening, told_by}
+use Rattle.xa_tables.specs.Openings.{IsOpening, fate_of_state}
 use Rattle.xa_tables.specs.Worth.{held_by}
-use Rattle.xa_tables.specs.Prepared.{NamesNowhere, OnlyDecides, LeavesWaiting, AwaitsAfter, IsTold, has_shut}
+use Rattle.xa_tables.specs.Prepared.{NamesNowhere, OnlyDecides, LeavesWaiting, AwaitsAfter, IsToldDecision, has_shut}
 
 -- what the laws of the tables say
 pub record Tabled : Type 0 where
@@ -34,13 +34,13 @@ pub record Tabled : Type 0 where
       ≡ held_by accounts x (tables_after h T)
   pub reads : (accounts : List (List ℕ × ℕ)) (t : ℕ) (x : XidName) (T : Tables) → (next t (Prepare x) T).1 ≡ RdOnly
       → held_by accounts x T ≡ pos 0
-  pub first : (x : XidName) (T : Tables) → IsFateOf x (told_by (state_of T x)) T
+  pub first : (x : XidName) (T : Tables) → IsFateOf x (fate_of_state (state_of T x)) T
   pub kept : (h : History) (x : XidName) (f : Fate) (T : Tables) → IsOpening T → IsFateOf x f T
       → IsFateOf x (fate x f h T) (tables_after h T)
   pub undecided : (g : History) (x : XidName) (T : Tables) → is_prepared T x ≡ false → OnlyDecides x g
       → fates_in x (coded g T) ≡ []
   pub silent : (g : History) (x : XidName) (T : Tables) → T.shut ≡ true → fates_in x (coded g T) ≡ []
   pub commit_tells : (t : ℕ) (x : XidName) (d : HeuristicDecision) (T : Tables)
-      → (next t (Commit x false) T).1 ≡ decision_code d → IsTold x d T (next t (Commit x false) T)
+      → (next t (Commit x false) T).1 ≡ decision_code d → IsToldDecision x d T (next t (Commit x false) T)
   pub rollback_tells : (t : ℕ) (x : XidName) (d : HeuristicDecision) (T : Tables)
-      → (next t (Rollback x) T).1 ≡ decision_code d → IsTold x d T (next t (Rollback x) T)
+      → (next t (Rollback x) T).1 ≡ decision_code d → IsToldDecision x d T (next t (Rollback x) T)

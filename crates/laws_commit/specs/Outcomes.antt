@@ -24,46 +24,48 @@ use Rattle.xa_driver.specs.Decision.{is_yes, is_no, yes_of}
 use Rattle.xa_log.specs.Log.{LogState, record_of}
 use Rattle.xa_driver.specs.Trace.{wants_record}
 use Rattle.xa_driver.specs.Commits.{NoCommitWasSent}
+use Rattle.xa_driver.specs.Deaths.{sent_so_far}
+use Rattle.laws_commit.specs.Calls.{CommitCall}
 
 -- ---- one outcome for all branches
 
 -- the ending, as a test
-abbrev pub is_committed : Ending → Bool
-is_committed Committed = true
-is_committed e = false
+abbrev pub ends_committed : Ending → Bool
+ends_committed Committed = true
+ends_committed e = false
 
 -- the ending, as a test
-abbrev pub is_rolled_back : Ending → Bool
-is_rolled_back RolledBack = true
-is_rolled_back e = false
+abbrev pub ends_rolled_back : Ending → Bool
+ends_rolled_back RolledBack = true
+ends_rolled_back e = false
 
 -- the ending, as a test
-abbrev pub is_in_doubt : Ending → Bool
-is_in_doubt InDoubt = true
-is_in_doubt e = false
+abbrev pub ends_in_doubt : Ending → Bool
+ends_in_doubt InDoubt = true
+ends_in_doubt e = false
 
 -- the ending, as a test
-abbrev pub is_heuristic : Ending → Bool
-is_heuristic (Heuristic c) = true
-is_heuristic e = false
+abbrev pub ends_heuristic : Ending → Bool
+ends_heuristic (Heuristic c) = true
+ends_heuristic e = false
 
 -- the ending, as a test
-abbrev pub is_left : Ending → Bool
-is_left (Left c) = true
-is_left e = false
+abbrev pub ends_left : Ending → Bool
+ends_left (Left c) = true
+ends_left e = false
 
 -- the ending, as a test
-abbrev pub is_read_only : Ending → Bool
-is_read_only ReadOnly = true
-is_read_only e = false
+abbrev pub ends_read_only : Ending → Bool
+ends_read_only ReadOnly = true
+ends_read_only e = false
 
 -- some branch was committed
 abbrev pub has_committed : Done → Bool
-has_committed d = list_any is_committed d.endings.items
+has_committed d = list_any ends_committed d.endings.items
 
 -- some branch was rolled back
 abbrev pub has_rolled_back : Done → Bool
-has_rolled_back d = list_any is_rolled_back d.endings.items
+has_rolled_back d = list_any ends_rolled_back d.endings.items
 
 -- some branch voted against
 abbrev pub has_vote_against : Done → Bool
@@ -121,6 +123,13 @@ pub record AreLeftAlone (s : Settling) (t : ℕ) (bs : List Branch) (from upto :
 pub record AreLeftOrDecided (s : Settling) (t : ℕ) (bs : List Branch) (from upto : ℕ → ℕ) : Type 0 where
   pub each : All (λ b. OnlyTheseOrDecisionsName b.xid t (from b.m) (upto b.m) (history_of s b.m)) bs
 
+-- so of a commit, by what its thread had sent before it and after it
+abbrev pub IsLeftAlone : Settling → CommitCall → Type 0
+IsLeftAlone s c = AreLeftAlone s c.thread c.branches (sent_so_far c.desk.ledgers) (sent_so_far c.new)
+
+abbrev pub IsLeftOrDecided : Settling → CommitCall → Type 0
+IsLeftOrDecided s c = AreLeftOrDecided s c.thread c.branches (sent_so_far c.desk.ledgers) (sent_so_far c.new)
+
 -- a Shut stands before thread t's request of this number
 pub record IsAfterShut (t n : ℕ) (h : History) : Type 0 where
   pub before : History
@@ -169,9 +178,9 @@ told_fate (Left c) = None
 -- manager was shut before the place of its second request, and ended heuristically only where a decision of it was
 -- carried out after its Prepare.
 pub record KeepsItsVote (s : Settling) (t : ℕ) (b : Branch) (n : ℕ) (vote : Code) (ending : Ending) : Type 0 where
-  pub reached : is_yes vote ≡ true → is_left ending ≡ false
-  pub shut : is_yes vote ≡ true → is_in_doubt ending ≡ true → IsAfterShut t (n + 1) (history_of s b.m)
-  pub decided : is_yes vote ≡ true → is_heuristic ending ≡ true → WasDecidedAfter s b t n
+  pub reached : is_yes vote ≡ true → ends_left ending ≡ false
+  pub shut : is_yes vote ≡ true → ends_in_doubt ending ≡ true → IsAfterShut t (n + 1) (history_of s b.m)
+  pub decided : is_yes vote ≡ true → ends_heuristic ending ≡ true → WasDecidedAfter s b t n
 
 -- the fate that a branch had as the opening began: the tables that its manager began with tell it
 pub record WasAtFirst (s : Settling) (b : Branch) (before : Fate) : Type 0 where
@@ -189,7 +198,7 @@ pub data IsInDoubtUnlessDecided (s : Settling) (t : ℕ) (b : Branch) (n : ℕ) 
 -- began
 pub record TellsTheFate (s : Settling) (t : ℕ) (b : Branch) (n : ℕ) (ending : Ending) : Type 0 where
   pub told : (before f : Fate) → WasAtFirst s b before → told_fate ending ≡ Some f → settled_fate s b.m b.xid before ≡ f
-  pub doubt : (before : Fate) → WasAtFirst s b before → is_in_doubt ending ≡ true
+  pub doubt : (before : Fate) → WasAtFirst s b before → ends_in_doubt ending ≡ true
       → IsInDoubtUnlessDecided s t b n before
 
 -- branch by branch, with its vote and its ending

@@ -1,7 +1,7 @@
 -- One outcome for each global transaction, over openings one after another: what was left in doubt is resolved by the
 -- log.
 use Rattle.std.specs.Prelude.{◌≡◌, ◌≢◌, ◌⊎◌, ℕ, ◌≤◌, Bool, true, false, if◌then◌else◌, Option, None, Some, List, []}
-use Rattle.std.specs.Prelude.{◌∷◌, ◌++◌, length, map}
+use Rattle.std.specs.Prelude.{◌∷◌, ◌++◌, length, map, slice_get}
 use Rattle.std.specs.List.{All, Contains, flat_map}
 use Rattle.xa_base.specs.declared.limits.TheConstants.{MOST_MANAGERS}
 use Rattle.xa_words.specs.Xid.{XidName}
@@ -19,106 +19,54 @@ use Rattle.xa_tables.specs.Histories as history
 use Rattle.xa_tables.specs.Histories.{Fate, IsFateOf, decided_fate, is_in_doubt as is_unknown}
 use Rattle.xa_tables.specs.Openings.{AreLeft, reopened_fate}
 use Rattle.xa_desk.specs.LedgerViews.{LedgerView}
-use Rattle.xa_desk.specs.DeskViews.{DeskView, ledger}
+use Rattle.xa_desk.specs.DeskViews.{ledger}
 use Rattle.xa_desk.specs.Growth.{HaveGrown}
 use Rattle.xa_switch.specs.Settled.{Settling, IsSettled, find_manager}
 use Rattle.xa_switch.specs.Fates.{ledgers_of, first_of, history as history_of, settled_fate}
 use Rattle.xa_switch.specs.Reopening.{last_in, reopened_at}
-use Rattle.xa_scan.specs.Left.{ScanView, left_at}
+use Rattle.xa_scan.specs.Left.{left_at}
 use Rattle.xa_driver.specs.declared.branch.Branch.{Branch}
 use Rattle.xa_driver.specs.declared.done.Done.{Done}
 use Rattle.xa_driver.specs.declared.done.Ending.{Ending}
 use Rattle.xa_driver.specs.declared.resolved.Outcome.{Outcome}
+use Rattle.laws_commit.specs.Calls.{CommitCall, HasFinished, ResolveCall, after_at, prepare_at}
 use Rattle.laws_commit.specs.Cut.{IsCut}
 use Rattle.xa_driver.specs.Decision.{is_yes}
-use Rattle.xa_log.specs.Log.{LogState, Records, all_records, record_in, record_of}
-use Rattle.xa_driver.specs.Trace.{IsCommit, IsTranOf}
-use Rattle.laws_commit.specs.Outcomes.{AreLeftOrDecided, EachOutcome, IsBetween, WasAtFirst, has_committed}
-use Rattle.xa_driver.specs.Deaths.{sent_so_far}
-use Rattle.laws_commit.specs.Outcomes.{has_vote_against, told_fate}
+use Rattle.xa_log.specs.Log.{Records, all_records, record_in, record_of}
+use Rattle.xa_driver.specs.Trace.{IsTranOf}
+use Rattle.laws_commit.specs.Outcomes.{EachOutcome, IsBetween, OnlyTheseOrDecisionsName, WasAtFirst}
+use Rattle.laws_commit.specs.Outcomes.{has_committed, has_vote_against, told_fate}
 use Rattle.xa_driver.specs.Resolving.{IsTraceOfResolve}
 
 -- ---- who used the log
 
--- a commit of several branches by a thread: over this desk and this log, and what it left of them and told
-pub record CommitCall : Type 0 where
-  pub thread : ℕ
-  pub branches : List Branch
-  pub desk : DeskView
-  pub new : List LedgerView
-  pub log : LogState
-  pub later : LogState
-  pub done : Done
-
--- one that was cut short, or not, and the endings that its coordinator knew
-pub record CutCall : Type 0 where
-  pub thread : ℕ
-  pub branches : List Branch
-  pub desk : DeskView
-  pub new : List LedgerView
-  pub log : LogState
-  pub later : LogState
-  pub endings : List Ending
-
--- a resolve by a thread, of what its scan has, over these lists and by these records, and what it left of the lists and
--- told
-pub record ResolveCall : Type 0 where
-  pub thread : ℕ
-  pub scan : ScanView
-  pub old : List LedgerView
-  pub new : List LedgerView
-  pub records : Records
-  pub outcomes : List Outcome
-
--- the same, by their parts
-abbrev pub commit_call : ℕ → List Branch → DeskView → List LedgerView → LogState → LogState → Done → CommitCall
-commit_call t bs desk new log later done =
-    record { thread = t; branches = bs; desk = desk; new = new; log = log; later = later; done = done }
-
-abbrev pub cut_call : ℕ → List Branch → DeskView → List LedgerView → LogState → LogState → List Ending → CutCall
-cut_call t bs desk new log later endings =
-    record { thread = t; branches = bs; desk = desk; new = new; log = log; later = later; endings = endings }
-
-abbrev pub resolve_call : ℕ → ScanView → List LedgerView → List LedgerView → List Outcome → Records → ResolveCall
-resolve_call t scan old new outcomes records =
-    record { thread = t; scan = scan; old = old; new = new; records = records; outcomes = outcomes }
-
 -- a use of the log
 pub data Use : Type 0 where
   commits : CommitCall → Use
-  cuts : CutCall → Use
   resolves : ResolveCall → Use
 
--- a commit as one that was cut short after its end
-abbrev pub as_cut : CommitCall → CutCall
-as_cut c = cut_call c.thread c.branches c.desk c.new c.log c.later c.done.endings.items
-
 -- it holds of the use, if that is a commit
-abbrev pub OfCommit : (CutCall → Type 0) → Use → Type 0
-OfCommit P (commits c) = P (as_cut c)
-OfCommit P (cuts k) = P k
+abbrev pub OfCommit : (CommitCall → Type 0) → Use → Type 0
+OfCommit P (commits c) = P c
 OfCommit P (resolves q) = Unit {0}
 
 -- by which thread, and what the thread's desk had sent and collected after it
 abbrev pub user : Use → ℕ
 user (commits c) = c.thread
-user (cuts k) = k.thread
 user (resolves q) = q.thread
 
 abbrev pub lists_after : Use → List LedgerView
 lists_after (commits c) = c.new
-lists_after (cuts k) = k.new
 lists_after (resolves q) = q.new
 
--- each is what commit_all, its stages and resolve promise
-abbrev pub IsDone : Use → Type 0
-IsDone (commits c) = IsCommit c.branches c.desk c.new c.log c.later c.done
-IsDone (cuts k) = IsCut k.branches k.desk k.new k.log k.later k.endings
-IsDone (resolves q) = IsTraceOfResolve q.scan q.records q.old q.new q.outcomes
+-- each is what a commit, its stages and a resolve promise
+abbrev pub IsAsPromised : Use → Type 0
+IsAsPromised (commits c) = IsCut c
+IsAsPromised (resolves q) = IsTraceOfResolve q.scan q.records q.old q.new q.outcomes
 
 -- It was made by a thread of the settled opening, whose lists have grown since.
 pub record IsUseIn (s : Settling) (u : Use) : Type 0 where
-  pub made : IsDone u
+  pub made : IsAsPromised u
   pub grown : HaveGrown (lists_after u) (ledgers_of s (user u))
 
 -- a thread, whose desk had these lists, is the commit's, and goes on after it
@@ -126,18 +74,18 @@ pub record GoesOnAfter (c : CommitCall) (thread : ℕ) (lists : List LedgerView)
   pub same : thread ≡ c.thread
   pub grown : HaveGrown c.new lists
 
--- a commit of the same transaction is by the same thread, and after it
+-- a commit of the same transaction is by the same thread, and after it came to its end
 abbrev pub IsByItsThread : CommitCall → Use → Type 0
 IsByItsThread c =
     OfCommit
-    (λ k. (t : TranName) → IsTranOf c.branches t → IsTranOf k.branches t → GoesOnAfter c k.thread k.desk.ledgers)
+    (λ k. (t : TranName) → IsTranOf c.branches t → IsTranOf k.branches t
+    → HasFinished c × GoesOnAfter c k.thread k.desk.ledgers)
 
 -- What the log has of the transaction, use after use: each finds what the one before it left. Of others it may take
 -- records, and forget them, between any two.
 abbrev pub AreUses : TranName → Records → List Use → Type 0
 AreUses t records [] = Unit {0}
 AreUses t records (commits c ∷ us) = (record_of c.log t ≡ record_in records t) × AreUses t c.later.records us
-AreUses t records (cuts k ∷ us) = (record_of k.log t ≡ record_in records t) × AreUses t k.later.records us
 AreUses t records (resolves q ∷ us) = (record_in q.records t ≡ record_in records t) × AreUses t records us
 
 -- ---- openings
@@ -195,18 +143,18 @@ NamesTran t (Heur x commit) = tran_of x ≡ t
 NamesTran t op = ⊥
 
 -- the use is a resolve, and sent this request to manager m
-abbrev pub HasSent : ℕ → Request → Use → Type 0
-HasSent m r (commits c) = ⊥
-HasSent m r (cuts k) = ⊥
-HasSent m r (resolves q) = IsBetween q.thread (length (ledger q.old m).sent) (length (ledger q.new m).sent) r
+abbrev pub ResolveHasSent : ℕ → Request → Use → Type 0
+ResolveHasSent m r (commits c) = ⊥
+ResolveHasSent m r (resolves q) = IsBetween q.thread (length (ledger q.old m).sent) (length (ledger q.new m).sent) r
 
 -- no request of the opening but those of resolves with the log names the transaction
 abbrev pub OnlyResolves : TranName → Opening → Type 0
 OnlyResolves t o =
-    (m : ℕ) → All (λ r. NamesTran t r.op → (u : Use) × (Contains o.uses u × HasSent m r u)) (history_of o.settled m)
+    (m : ℕ) → All (λ r. NamesTran t r.op → (u : Use)
+    × (Contains o.uses u × ResolveHasSent m r u)) (history_of o.settled m)
 
 -- one of these branches is left to the next opening
-pub record HasLeft (bs : List Branch) (s : Settling) : Type 0 where
+pub record HasBranchLeft (bs : List Branch) (s : Settling) : Type 0 where
   pub branch : Branch
   pub among : Contains bs branch
   pub left : is_left_in (reopened_at s.managers branch.m) branch.xid ≡ true
@@ -263,18 +211,18 @@ pub record EndsAs (commit : Bool) (o : Opening) (later : List Opening) (b : Bran
   pub unprepared : is_prepared (tables_left o b.m) b.xid ≡ true
       → is_prepared (tables_left (last_of o later) b.m) b.xid ≡ false
 
--- so each branch of the call
-abbrev pub EachEnds : CommitCall → Opening → List Opening → Type 0
-EachEnds c o later =
-    EachOutcome (λ b v e. is_yes v ≡ true → EndsAs c.done.commit o later b e)
-    c.branches c.done.votes.items c.done.endings.items
+-- so each branch of the commit, which reported `done`
+abbrev pub EachEnds : CommitCall → Done → Opening → List Opening → Type 0
+EachEnds c done o later =
+    EachOutcome (λ b v e. is_yes v ≡ true → EndsAs done.commit o later b e)
+    c.branches done.votes.items done.endings.items
 
 -- All or none: it was decided to commit, no vote was against, and all branches that voted to commit are committed; or
 -- it was decided to abort, no branch was committed, and they are all rolled back. Those that ended heuristically are
 -- listed.
-pub data IsAllOrNone (c : CommitCall) (o : Opening) (later : List Opening) : Type 0 where
-  all : c.done.commit ≡ true → has_vote_against c.done ≡ false → EachEnds c o later → IsAllOrNone c o later
-  none : c.done.commit ≡ false → has_committed c.done ≡ false → EachEnds c o later → IsAllOrNone c o later
+pub data IsAllOrNone (c : CommitCall) (done : Done) (o : Opening) (later : List Opening) : Type 0 where
+  all : done.commit ≡ true → has_vote_against done ≡ false → EachEnds c done o later → IsAllOrNone c done o later
+  none : done.commit ≡ false → has_committed done ≡ false → EachEnds c done o later → IsAllOrNone c done o later
 
 -- ---- what a resolve tells
 
@@ -304,36 +252,43 @@ pub record IsOutcomeOf (bs : List Branch) (r : Outcome) : Type 0 where
   pub manager : r.m ≡ branch.m
   pub xid : r.xid ≡ branch.xid
 
--- An opening o with a use u of the log, those between, and the last, with a resolve q. The use is a commit of these
--- branches over this desk, or one that was cut short, and the log is as it left it.
-pub record IsFollowed (o : Opening) (between : List Opening) (last : Opening) (u : Use) (bs : List Branch)
-    (desk : DeskView) (left : LogState) (q : ResolveCall) : Type 0 where
+-- the branch was asked to prepare: that is the first of what was sent to its manager since
+abbrev pub WasAsked : CommitCall → Branch → Type 0
+WasAsked c b = slice_get (after_at c b).sent (prepare_at c b) ≡ Some (Prepare b.xid)
+
+-- each branch that was asked to prepare is named by nobody else after that, but for heuristic decisions
+abbrev pub AskedAreLeft : CommitCall → Settling → Type 0
+AskedAreLeft c s =
+    All
+    (λ b. WasAsked c b
+    → OnlyTheseOrDecisionsName b.xid c.thread (prepare_at c b) (length (after_at c b).sent) (history_of s b.m))
+    c.branches
+
+-- An opening o with a commit c, finished or cut short, those between, and the last, with a resolve q.
+pub record IsResolved (o : Opening) (between : List Opening) (last : Opening) (c : CommitCall)
+    (q : ResolveCall) : Type 0 where
   -- each was settled, and continues the one before it
   pub kept : All IsKept (o ∷ (between ++ last ∷ []))
   pub in_a_row : AreInARow o (between ++ last ∷ [])
-  -- the use is of the first of them, the resolve of the last
+  -- the commit is of the first of them, the resolve of the last
   pub us : List Use
   pub vs : List Use
-  pub use_at : o.uses ≡ us ++ u ∷ vs
+  pub use_at : o.uses ≡ us ++ commits c ∷ vs
   pub ps : List Use
   pub qs : List Use
   pub resolve_at : last.uses ≡ ps ++ resolves q ∷ qs
   -- the desk has no more managers than a record has places for
-  pub few : length desk.ledgers ≤ MOST_MANAGERS
-  -- if one of the branches was left, the log keeps the record of the transaction from the use on
-  pub log : HasLeft bs o.settled
-      → (t : TranName) → IsTranOf bs t → AreUses t left.records (vs ++ uses_of (between ++ last ∷ []))
+  pub few : length c.desk.ledgers ≤ MOST_MANAGERS
+  -- if one of the branches was left, the log keeps the record of the transaction from the commit on
+  pub log : HasBranchLeft c.branches o.settled
+      → (t : TranName) → IsTranOf c.branches t → AreUses t c.later.records (vs ++ uses_of (between ++ last ∷ []))
+  -- in the first opening nobody commits the transaction after it, but its own thread, where it has finished
+  pub its_thread : All (IsByItsThread c) vs
+  -- from its Prepares on nobody but the commit names its branches, but for heuristic decisions
+  pub own : AskedAreLeft c o.settled
   -- if a branch of the transaction was left, nothing but resolves with the log names it later
-  pub later : (t : TranName) → IsTranOf bs t → HasLeftOf t o.settled → All (OnlyResolves t) (between ++ last ∷ [])
+  pub later : (t : TranName) → IsTranOf c.branches t → HasLeftOf t o.settled
+      → All (OnlyResolves t) (between ++ last ∷ [])
   -- the resolve had the scan of its opening, and reached each branch of the commit that it was to end
   pub scan : (m : ℕ) (T : Tables) → first_of last.settled m ≡ Some T → AreLeft (left_at q.scan m) T
-  pub reached : All (λ r. IsOutcomeOf bs r → r.code ≢ RmFail) q.outcomes
-
--- An opening o with a commit c, those between, and the last, with a resolve q.
-pub record IsResolved (o : Opening) (between : List Opening) (last : Opening) (c : CommitCall)
-    (q : ResolveCall) : Type 0 where
-  pub followed : IsFollowed o between last (commits c) c.branches c.desk c.later q
-  -- in the first, no other thread commits the transaction after it, and its own goes on
-  pub its_thread : All (IsByItsThread c) followed.vs
-  -- from its Prepares on nobody but the commit names its branches, but for heuristic decisions
-  pub own : AreLeftOrDecided o.settled c.thread c.branches (sent_so_far c.desk.ledgers) (sent_so_far c.new)
+  pub reached : All (λ r. IsOutcomeOf c.branches r → r.code ≢ RmFail) q.outcomes

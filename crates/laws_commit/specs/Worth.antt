@@ -1,18 +1,19 @@
 -- What the values have of the additions of a global transaction, over openings one after another.
-use Rattle.std.specs.Prelude.{◌≡◌, ℕ, ℤ, pos, Bool, true, false, if◌then◌else◌, Some, List, ◌∷◌, ◌++◌, length, map}
+use Rattle.std.specs.Prelude.{◌≡◌, ℕ, ℤ, pos, Bool, true, false, if◌then◌else◌, Some, List, ◌∷◌, ◌++◌, map}
 use Rattle.xa_words.specs.Xid.{XidName}
 use Rattle.xa_tables.specs.declared.state.HeuristicDecision.{HeuristicDecision}
 use Rattle.xa_tables.specs.ManagerTables.{Tables}
 use Rattle.xa_tables.specs.Histories as history
 use Rattle.xa_tables.specs.Histories.{History, Fate, IsFateOf, fate, share, tables_after}
 use Rattle.xa_tables.specs.Openings.{commits_over}
-use Rattle.xa_desk.specs.DeskViews.{ledger}
 use Rattle.xa_switch.specs.Fates.{first_of, history as history_of}
 use Rattle.xa_driver.specs.declared.branch.Branch.{Branch}
+use Rattle.xa_driver.specs.declared.done.Done.{Done}
 use Rattle.laws_commit.specs.Additions.{IsAddition, prepare_of}
 use Rattle.xa_driver.specs.Decision.{is_yes}
-use Rattle.laws_commit.specs.Outcomes.{EachOutcome, is_heuristic}
-use Rattle.laws_commit.specs.Resolution.{CommitCall, Opening, IsListed, became}
+use Rattle.laws_commit.specs.Outcomes.{EachOutcome, ends_heuristic}
+use Rattle.laws_commit.specs.Calls.{CommitCall, prepare_at}
+use Rattle.laws_commit.specs.Resolution.{Opening, IsListed, became}
 
 -- it is committed, as was decided or heuristically
 abbrev pub is_committed : Fate → Bool
@@ -42,10 +43,10 @@ SharesOver o later t b n counts =
     ≡ (if counts (became b (F b.xid) o later) then d else pos 0)
 
 -- Of each branch of the call that voted to commit the additions count over all openings exactly where it was committed.
-pub record CountsOver (c : CommitCall) (o : Opening) (later : List Opening) : Type 0 where
+pub record CountsOver (c : CommitCall) (done : Done) (o : Opening) (later : List Opening) : Type 0 where
   pub each : EachOutcome
-      (λ b v e. is_yes v ≡ true → SharesOver o later c.thread b (length (ledger c.desk.ledgers b.m).sent) is_committed)
-      c.branches c.done.votes.items c.done.endings.items
+      (λ b v e. is_yes v ≡ true → SharesOver o later c.thread b (prepare_at c b) is_committed)
+      c.branches done.votes.items done.endings.items
 
 -- no resolve of these openings lists the branch with a heuristic decision
 abbrev pub IsUnlisted : Branch → List Opening → Type 0
@@ -53,8 +54,8 @@ IsUnlisted b os = (d : HeuristicDecision) → IsListed b d os → ⊥
 
 -- But for branches that were decided heuristically all additions of the transaction count, where it was decided to
 -- commit, or none does.
-pub record CountsAllOrNone (c : CommitCall) (o : Opening) (later : List Opening) : Type 0 where
+pub record CountsAllOrNone (c : CommitCall) (done : Done) (o : Opening) (later : List Opening) : Type 0 where
   pub each : EachOutcome
-      (λ b v e. is_yes v ≡ true → is_heuristic e ≡ false → IsUnlisted b later
-      → SharesOver o later c.thread b (length (ledger c.desk.ledgers b.m).sent) (λ f. c.done.commit))
-      c.branches c.done.votes.items c.done.endings.items
+      (λ b v e. is_yes v ≡ true → ends_heuristic e ≡ false → IsUnlisted b later
+      → SharesOver o later c.thread b (prepare_at c b) (λ f. done.commit))
+      c.branches done.votes.items done.endings.items

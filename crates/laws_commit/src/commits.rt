@@ -2,16 +2,14 @@
 ghost use Rattle.std.specs.Prelude.{◌≡◌, true, false, List};
 ghost use Rattle.xa_words.specs.Tran.{TranName};
 ghost use Rattle.xa_desk.specs.LedgerViews.{LedgerView};
-ghost use Rattle.xa_desk.specs.DeskViews.{DeskView};
 ghost use Rattle.xa_desk.specs.Growth.{HaveGrown};
 ghost use Rattle.xa_driver.specs.declared.branch.Branch.{Branch};
 ghost use Rattle.xa_driver.specs.declared.done.Done.{Done};
 ghost use Rattle.xa_log.specs.Log.{LogState};
-ghost use Rattle.xa_driver.specs.Trace.{IsCommit, IsTraceOfCommit, IsTranOf};
-ghost use Rattle.xa_driver.specs.Trace.{wants_record};
+ghost use Rattle.xa_driver.specs.Trace.{IsTraceOfCommit, IsTranOf, wants_record};
 ghost use Rattle.xa_driver.specs.Commits.{NoCommitWasSent};
-ghost use Rattle.laws_commit.specs.Outcomes.{IsCommittedTransaction};
-ghost use Rattle.laws_commit.specs.Outcomes.{IsAbortedTransaction, has_committed};
+ghost use Rattle.laws_commit.specs.Calls.{CommitCall, IsFinished};
+ghost use Rattle.laws_commit.specs.Outcomes.{IsAbortedTransaction, IsCommittedTransaction, has_committed};
 ghost use Rattle.laws_commit.specs.Outcomes.{was_refused};
 
 /// Of one call alone: where the append failed, no Commit was sent to any manager.
@@ -27,12 +25,12 @@ pub fn failed_append()
 /// failed, no branch was committed, the log has nothing of the transaction, and no Commit was sent to any
 /// manager.
 pub fn one_outcome()
-    ensures committed { (tran : TranName) (bs : List Branch) (desk : DeskView) (new : List LedgerView)
-        (log later : LogState) (done : Done) → IsCommit bs desk new log later done → IsTranOf bs tran
-        → has_committed done ≡ true → IsCommittedTransaction tran bs later done }
-    ensures aborted { (tran : TranName) (bs : List Branch) (desk : DeskView) (new : List LedgerView)
-        (log later : LogState) (done : Done) → IsCommit bs desk new log later done → IsTranOf bs tran
-        → was_refused done ≡ true → IsAbortedTransaction tran desk.ledgers new later done }
+    ensures committed { (c : CommitCall) (done : Done) (tran : TranName) → IsFinished c done
+        → IsTranOf c.branches tran → has_committed done ≡ true
+        → IsCommittedTransaction tran c.branches c.later done }
+    ensures aborted { (c : CommitCall) (done : Done) (tran : TranName) → IsFinished c done
+        → IsTranOf c.branches tran → was_refused done ≡ true
+        → IsAbortedTransaction tran c.desk.ledgers c.new c.later done }
 {}
 
 /// A commit of several branches only makes its desk's lists grow.

@@ -3,28 +3,27 @@ ghost use Rattle.std.specs.List.{All, Contains, list_any};
 ghost use Rattle.std.specs.Prelude.{◌≡◌, ℕ, ◌≤◌, ℤ, pos, ◌+ℤ◌, true, false, Some, List, length};
 ghost use Rattle.xa_base.specs.Sums.{total};
 ghost use Rattle.xa_words.specs.Tran.{TranName, tran_of};
-ghost use Rattle.xa_tables.specs.Prepared.{names};
 ghost use Rattle.xa_desk.specs.LedgerViews.{LedgerView};
-ghost use Rattle.xa_desk.specs.DeskViews.{DeskView};
 ghost use Rattle.xa_switch.specs.Settled.{Settling, IsSettled};
 ghost use Rattle.xa_desk.specs.Growth.{HaveGrown};
 ghost use Rattle.xa_switch.specs.Reopening.{reopened_at};
 ghost use Rattle.xa_switch.specs.Fates.{IsOpenedWith, first_of, ledgers_of};
 ghost use Rattle.xa_switch.specs.Plans.{IsSoundManager};
-ghost use Rattle.xa_switch.specs.Worth.{WorthIsOfThreads, accounts_of, threads_of, plan_worth, settled_worth};
+ghost use Rattle.xa_switch.specs.Worth.{WorthIsOfThreads, accounts_of, threads_of_plan, plan_worth, settled_worth};
 ghost use Rattle.xa_switch.specs.declared.plan.Plan.{Plan};
 ghost use Rattle.xa_driver.specs.declared.branch.Branch.{Branch};
 ghost use Rattle.xa_driver.specs.declared.done.Done.{Done};
-ghost use Rattle.xa_log.specs.Log.{LogState};
 ghost use Rattle.xa_driver.specs.Forgetful.{is_acknowledged};
 ghost use Rattle.xa_driver.specs.Trace.{IsCommit, IsTranOf};
+ghost use Rattle.laws_commit.specs.Calls.{CommitCall, IsFinishedIn, ResolveCall};
 ghost use Rattle.laws_commit.specs.Outcomes.{AreLeftAlone, AreLeftOrDecided, IsCommittedTransaction};
+ghost use Rattle.laws_commit.specs.Outcomes.{IsLeftAlone, IsLeftOrDecided};
 ghost use Rattle.laws_commit.specs.Outcomes.{IsAbortedTransaction, KeepsTheVotes, TellsTheFates, has_committed};
-ghost use Rattle.laws_commit.specs.Outcomes.{is_in_doubt, was_refused};
+ghost use Rattle.laws_commit.specs.Outcomes.{ends_in_doubt, was_refused};
 ghost use Rattle.xa_driver.specs.Deaths.{sent_so_far};
 ghost use Rattle.laws_commit.specs.Conservation.{OnlyTransfers, held_in_doubt};
-ghost use Rattle.laws_commit.specs.Additions.{CountsTheCommitted, HasAllOrNothing, is_decided};
-ghost use Rattle.laws_commit.specs.Resolution.{ResolveCall, HasLeft, IsUseIn, OnlyResolves, TellsTheOutcomes};
+ghost use Rattle.laws_commit.specs.Additions.{CountsTheCommitted, HasAllOrNothing, is_decided_everywhere};
+ghost use Rattle.laws_commit.specs.Resolution.{HasBranchLeft, IsUseIn, OnlyResolves, TellsTheOutcomes};
 ghost use Rattle.laws_commit.specs.Resolution.{resolves, with_use};
 ghost use Rattle.xa_driver.specs.declared.resolved.Outcome.{Outcome};
 ghost use Rattle.xa_words.specs.Codes.{is_done};
@@ -36,13 +35,13 @@ ghost use Rattle.xa_switch.specs.OfPlans.{IsOfPlan};
 
 use crate::commits::one_outcome;
 use crate::tables_keep_to_their_laws;
+use laws_tables::{branches_hold_their_additions, commits_alone_move_the_worth};
 use std::snapshot::Snapshot;
 use xa_desk::Desk;
 use xa_driver::{Branch, Done};
 use xa_log::DecisionLog;
 use xa_switch::Settled;
 use xa_switch::laws::settled_journals_follow_the_tables;
-use laws_tables::{branches_hold_their_additions, commits_alone_move_the_worth};
 
 /// In a settled opening, where nobody but the call named a branch after its Prepare, but for heuristic decisions: a
 /// branch that voted to commit isn't left, is in doubt only where its manager was shut before the place of its second
@@ -51,22 +50,14 @@ use laws_tables::{branches_hold_their_additions, commits_alone_move_the_worth};
 /// Where no heuristic decision named a branch either, the values count each addition of it exactly where it was
 /// committed; and where no branch is in doubt or left, they count all additions of the transaction or none.
 pub fn endings_are_fates()
-    ensures votes { (s : Settling) (t : ℕ) (bs : List Branch) (desk : DeskView) (new : List LedgerView)
-        (log later : LogState) (done : Done) → IsSettled s → IsCommit bs desk new log later done
-        → HaveGrown new (ledgers_of s t) → AreLeftOrDecided s t bs (sent_so_far desk.ledgers) (sent_so_far new)
-        → KeepsTheVotes s t bs (sent_so_far desk.ledgers) done }
-    ensures fates { (s : Settling) (t : ℕ) (bs : List Branch) (desk : DeskView) (new : List LedgerView)
-        (log later : LogState) (done : Done) → IsSettled s → IsCommit bs desk new log later done
-        → HaveGrown new (ledgers_of s t) → AreLeftOrDecided s t bs (sent_so_far desk.ledgers) (sent_so_far new)
-        → TellsTheFates s t bs (sent_so_far desk.ledgers) done }
-    ensures values { (s : Settling) (t : ℕ) (bs : List Branch) (desk : DeskView) (new : List LedgerView)
-        (log later : LogState) (done : Done) → IsSettled s → IsCommit bs desk new log later done
-        → HaveGrown new (ledgers_of s t) → AreLeftAlone s t bs (sent_so_far desk.ledgers) (sent_so_far new)
-        → CountsTheCommitted s t bs (sent_so_far desk.ledgers) done }
-    ensures whole { (s : Settling) (t : ℕ) (bs : List Branch) (desk : DeskView) (new : List LedgerView)
-        (log later : LogState) (done : Done) → IsSettled s → IsCommit bs desk new log later done
-        → HaveGrown new (ledgers_of s t) → AreLeftAlone s t bs (sent_so_far desk.ledgers) (sent_so_far new)
-        → is_decided done ≡ true → HasAllOrNothing s t bs (sent_so_far desk.ledgers) done }
+    ensures votes { (s : Settling) (c : CommitCall) (done : Done) → IsFinishedIn s c done → IsLeftOrDecided s c
+        → KeepsTheVotes s c.thread c.branches (sent_so_far c.desk.ledgers) done }
+    ensures fates { (s : Settling) (c : CommitCall) (done : Done) → IsFinishedIn s c done → IsLeftOrDecided s c
+        → TellsTheFates s c.thread c.branches (sent_so_far c.desk.ledgers) done }
+    ensures values { (s : Settling) (c : CommitCall) (done : Done) → IsFinishedIn s c done → IsLeftAlone s c
+        → CountsTheCommitted s c.thread c.branches (sent_so_far c.desk.ledgers) done }
+    ensures whole { (s : Settling) (c : CommitCall) (done : Done) → IsFinishedIn s c done → IsLeftAlone s c
+        → is_decided_everywhere done ≡ true → HasAllOrNothing s c.thread c.branches (sent_so_far c.desk.ledgers) done }
 {
     tables_keep_to_their_laws();
     settled_journals_follow_the_tables();
@@ -76,10 +67,8 @@ pub fn endings_are_fates()
 /// commit that all branches have acknowledged leaves none of them to the next opening. So nobody will ask for its
 /// record, and a log may forget it.
 pub fn acknowledged_commits_leave_no_branch()
-    ensures { (s : Settling) (t : ℕ) (bs : List Branch) (desk : DeskView) (new : List LedgerView)
-        (log later : LogState) (done : Done) → IsSettled s → IsCommit bs desk new log later done
-        → HaveGrown new (ledgers_of s t) → AreLeftOrDecided s t bs (sent_so_far desk.ledgers) (sent_so_far new)
-        → is_acknowledged done ≡ true → HasLeft bs s → ⊥ }
+    ensures { (s : Settling) (c : CommitCall) (done : Done) → IsFinishedIn s c done → IsLeftOrDecided s c
+        → is_acknowledged done ≡ true → HasBranchLeft c.branches s → ⊥ }
 {
     tables_keep_to_their_laws();
     settled_journals_follow_the_tables();
@@ -92,9 +81,9 @@ pub fn transfers_conserve_the_worth()
     ensures conserved { (p : Plan) (s : Settling) (doubt : ℕ → ℤ) → IsSettled s → IsOfPlan p s
         → All IsSoundManager p.managers.items → ((t : ℕ) → 1 ≤ t → t ≤ p.threads
         → OnlyTransfers p s t (ledgers_of s t) (doubt t))
-        → settled_worth p s +ℤ total doubt (threads_of p) ≡ plan_worth p }
+        → settled_worth p s +ℤ total doubt (threads_of_plan p) ≡ plan_worth p }
     ensures decided { (p : Plan) (s : Settling) (t : ℕ) (old : List LedgerView) (bs : List Branch) (done : Done)
-        → list_any is_in_doubt done.endings.items ≡ false → held_in_doubt p s t old bs done ≡ pos 0 }
+        → list_any ends_in_doubt done.endings.items ≡ false → held_in_doubt p s t old bs done ≡ pos 0 }
 {
     tables_keep_to_their_laws();
     branches_hold_their_additions();
@@ -159,7 +148,7 @@ pub fn commit_in_a_settled_opening<L: DecisionLog>(
         → CountsTheCommitted settled.now thread branches.now (sent_so_far before.now.value.ledgers) done.now }
     ensures whole { AreLeftAlone settled.now thread branches.now (sent_so_far before.now.value.ledgers)
         (sent_so_far after.now.value.ledgers)
-        → is_decided done.now ≡ true
+        → is_decided_everywhere done.now ≡ true
         → HasAllOrNothing settled.now thread branches.now (sent_so_far before.now.value.ledgers) done.now }
 {
     one_outcome();

@@ -1,11 +1,12 @@
-//! That a commit of several branches is atomic: laws alone, of the definitions that `commit_all`, `resolve` and
-//! `settle` promise.
+//! That a commit of several branches is atomic: laws alone, of the definitions that `commit`, `resolve` and `settle`
+//! promise.
 //!
-//! A commit that was made is `commit_all`'s clause `made`; one that was cut short is what its stages promise. The
-//! desk's lists lead to what the settled opening has of its thread, since every call says that it goes on
-//! (`xa_desk::laws::desks_go_on` joins two such calls) and `settle` has the lists with which the desk ended. That
-//! nobody else names a branch after its Prepare is for the caller to know. The program doesn't stand on this crate;
-//! a caller may cite its laws, as demo_bank does.
+//! What `commit` came to is its clause `comes`. Where it was decided and all branches were told, that is a commit that
+//! was made (`decided_commits_were_made`). Whatever it came to, it is one that was cut short (`commits_are_cuts`), as
+//! is each stage that is let go. The desk's lists lead to what the settled opening has of its thread, since every call
+//! says that it goes on (`xa_desk::laws::desks_go_on` joins two such calls) and `settle` has the lists with which the
+//! desk ended. That nobody else names a branch after its Prepare is for the caller to know. The program doesn't stand
+//! on this crate; a caller may cite its laws, as demo_bank does.
 #![tactic(auto)]
 
 ghost use Rattle.laws_commit.specs.LawsOfTables.{Tabled};
@@ -27,9 +28,9 @@ pub use crate::resolved::{
     resolved_transactions_count_where_committed, resolved_transactions_have_one_outcome,
 };
 pub use crate::stages::{
-    cut_commits_go_by_the_record, deaths_are_cuts, finished_commits_are_cut_after_all,
-    others_leave_the_branches, rounds_are_cuts, second_rounds_go_by_the_record, stages_are_cuts,
-    stages_follow,
+    commits_are_cuts, cut_commits_go_by_the_record, decided_commits_were_made,
+    finished_commits_are_cut_after_all, logs_turn_out_as_they_are_read, others_leave_the_branches,
+    rounds_are_cuts, second_rounds_go_by_the_record, stages_are_cuts, stages_follow,
 };
 use laws_fates::{late_requests_leave_fates, tables_tell_the_fates};
 use laws_tables::{

@@ -10,14 +10,14 @@ ghost use Rattle.xa_tables.specs.Histories.{History, Fate, IsFateOf, OnlyUnfinis
 ghost use Rattle.xa_tables.specs.Histories.{LateAreRefused, LateChangeNothing, tables_after, coded, accepted};
 ghost use Rattle.xa_tables.specs.Histories.{first_shut, late, fate, fate_in};
 ghost use Rattle.xa_tables.specs.Openings.{IsNew, IsOpening, FatesAreTold, ValueIsSum, reopened, reopened_fate};
-ghost use Rattle.xa_tables.specs.Openings.{told_by};
+ghost use Rattle.xa_tables.specs.Openings.{fate_of_state};
 
 /// Whatever is requested, the tables tell what became of each branch: it is prepared exactly if it is in doubt, it
 /// exists exactly while it is at work or in doubt or is heuristically completed, and then it ended as was decided. So
 /// it is in an opening, from a fate that its first tables tell, and over any openings one after another.
 #[tactic(auto, using(crate::proofs::FateLaw::begin_law, crate::proofs::FateLaw::kept_law))]
 pub fn tables_tell_the_fates()
-    ensures first { (x : XidName) (T : Tables) → IsFateOf x (told_by (state_of T x)) T }
+    ensures first { (x : XidName) (T : Tables) → IsFateOf x (fate_of_state (state_of T x)) T }
     ensures kept { (h : History) (x : XidName) (f : Fate) (T : Tables) → IsOpening T → IsFateOf x f T
         → IsFateOf x (fate x f h T) (tables_after h T) }
     ensures reopened { (x : XidName) (f : Fate) (T : Tables) → IsFateOf x f T

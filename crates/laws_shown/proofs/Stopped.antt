@@ -1,21 +1,26 @@
 -- What became of the branches of a commit that came to no end.
-use Rattle.xa_base.proofs.{got_on, begins_on, same_begins, list_any_at, rules, ◌⊎◌, slice_get, All, ◌≡◌, ℕ, inl, inr, suc, ◌<◌, ◌≤◌, Bool, true, false}
-use Rattle.xa_base.proofs.{if◌then◌else◌, List, [], ◌∷◌, length, length-append, append_assoc, Option, zero, Some, None, get_or, sym, refl, ap, ◌∙◌, arith}
-use Rattle.xa_base.proofs.{cases_Bool, All-cons, All-nil, All-head, All-tail, next_there, some_same, both_ways, slice_get_past}
+use Rattle.xa_base.proofs.{got_on, begins_on, same_begins, list_any_at, rules, ◌⊎◌, slice_get, All, ◌≡◌, ℕ, inl, inr}
+use Rattle.xa_base.proofs.{suc, ◌<◌, ◌≤◌, Bool, true, false, if◌then◌else◌, List, [], ◌∷◌, length, length-append}
+use Rattle.xa_base.proofs.{append_assoc, Option, zero, Some, None, get_or, sym, refl, ap, ◌∙◌, arith, Vec, Global}
+use Rattle.xa_base.proofs.{cases_Bool, All-cons, All-nil, All-head, All-tail, next_there, some_same, both_ways}
+use Rattle.xa_base.proofs.{slice_get_past}
 use Rattle.xa_tables.specs.{History, is_heur, Fate, decided_fate, Tables}
 use Rattle.xa_base.specs.{Begins}
 use Rattle.xa_words.specs.{XidName, TranName, Done, RmFail, Death, Op, Prepare, Code}
 use Rattle.xa_words.specs.declared.death.Death.TheVariants as death
+use Rattle.xa_driver.specs.declared.done.CommitOutcome.TheVariants as outcome
+use Rattle.xa_driver.specs.declared.done.LastKnown.TheVariants as known_as
 use Rattle.xa_worker.specs.{Entry}
 use Rattle.xa_switch.specs.{Settling, IsSettled, journal, IsOpenedWith, history as history_of}
 use Rattle.xa_calls.specs.Scans.{Asking}
-use Rattle.xa_driver.specs.{Branch, Done as Outcome, Ending, Committed, RolledBack, AsksFor, CameTo, HaveAsked, HaveTold, IsDecidedBy, Tells, VotesAndObeys}
-use Rattle.xa_driver.specs.{to_come, is_yes, ending_of, second_op}
+use Rattle.xa_driver.specs.{Branch, CameToEndings, Done as Outcome, Ending, LastKnown, Committed, RolledBack, AsksFor}
+use Rattle.xa_driver.specs.{CameTo, HaveAsked, HaveTold, IsDecidedBy, AsksOrPuts, VotesAndObeys, knows_commit, to_come}
+use Rattle.xa_driver.specs.{is_yes, ending_of, second_op, votes_known}
 use Rattle.xa_calls.proofs.Morphisms.{keeps}
 use Rattle.xa_driver.proofs.Mapped.{any_asked, each_so, for_mapped, Any}
 use Rattle.xa_log.specs.{LogState, record_of}
-use Rattle.laws_commit.specs.{is_recorded, AreLeftAlone, AreLeftOrDecided, OnlyTheseName, OnlyTheseOrDecisionsName, WasAtFirst, is_heuristic, is_in_doubt}
-use Rattle.laws_commit.specs.{is_left, told_fate, ended_as, Tabled}
+use Rattle.laws_commit.specs.{is_recorded, AreLeftAlone, AreLeftOrDecided, OnlyTheseName, OnlyTheseOrDecisionsName}
+use Rattle.laws_commit.specs.{WasAtFirst, ends_heuristic, ends_in_doubt, ends_left, told_fate, ended_as, Tabled}
 use Rattle.laws_commit.specs.Outcomes.IsInDoubtUnlessDecided.{decided as was_decided, undecided}
 use Rattle.laws_commit.proofs.Courses.{course_obeyed, own_plain}
 use Rattle.laws_commit.proofs.Fated.{none_decides}
@@ -24,9 +29,10 @@ use Rattle.laws_commit.proofs.Settled.{decided_alike, Fated, InHistory, one_fate
 use Rattle.laws_commit.proofs.Sites.{StandsIn}
 use Rattle.script_grammar.specs.{CommitAll}
 use Rattle.script_session.specs.{branches_of, named}
-use Rattle.laws_transcript.specs.{Part, next_entry, CarriesOut, CarriesOutSome, LosesSight, StopsAt, entries_of, entered_so_far}
+use Rattle.laws_transcript.specs.{Part, next_entry, CarriesOut, CarriesOutSome, TakesCommit, entries_of, entered_so_far}
 use Rattle.laws_transcript.specs.Commits.CarriesOut.{carried, withheld}
-use Rattle.laws_shown.specs.{EndByTheRecord, EndsByTheRecord, EndSoOrAreDecided, EndsSoOrIsDecided, HasAgreed, IsAsFarAsShown, IsAsFarUnlessDecided, are_told_by}
+use Rattle.laws_shown.specs.{EndByTheRecord, EndsByTheRecord, EndSoOrAreDecided, EndsSoOrIsDecided, HasAgreed}
+use Rattle.laws_shown.specs.{IsAsFarAsShown, IsAsFarUnlessDecided, are_told_by}
 use Rattle.laws_shown.specs.Unfinished.EndsByTheRecord.{ends, doubts}
 use Rattle.laws_shown.specs.Unfinished.EndsSoOrIsDecided.{decided, ends_so}
 use Rattle.laws_shown.proofs.Adds.{Adds}
@@ -55,7 +61,8 @@ module _ (t : ℕ) (old new : ℕ → List Entry) where
     pub ending : Ending
     pub obeys : VotesAndObeys A commit b vote second ending (old b.m) (new b.m)
 
-  told_for : (k : ℕ) (op : Option Op) (d e : List Entry) → Tells A (CarriesOutSome t) k op d e → (z : Option Code) × AsksFor A op z d e
+  told_for : (k : ℕ) (op : Option Op) (d e : List Entry) → AsksOrPuts A (CarriesOutSome t) k op d e
+      → (z : Option Code) × AsksFor A op z d e
   told_for k None d e same = (None, (refl, same))
   told_for zero (Some op) d e is = (Some is.0, is.1)
   told_for (suc k) (Some op) d e is = (Some is.0, is.1)
@@ -75,23 +82,34 @@ module _ (t : ℕ) (old new : ℕ → List Entry) where
       }) (told_each W commit (to_come (second_op commit b.xid v) k) bs vs (All-tail W v vs so) h.1)
   told_each W commit k bs vs so h = absurd h
 
-  module _ (tran : TranName) (bs : List Branch) (log later : LogState) (known : Outcome) where
-    abbrev Far : Death → Type 0
-    Far at = CameTo A (CarriesOutSome t) at tran bs old new log later known
+  module _ (tran : TranName) (bs : List Branch) (log later : LogState) where
+    abbrev Far : Death → LastKnown → Type 0
+    Far at known = CameTo A (CarriesOutSome t) at tran bs old new log later known
 
-    pub untold : (at : Death) → are_told_by at ≡ false → Far at → All IsPut bs
-    untold (death.Telling k) none far = absurd (cc)
-    untold death.Told none far = absurd (cc)
-    untold at none far = asked_each bs known.votes.items far.asked
+    pub untold : (at : Death) (known : LastKnown) → are_told_by at ≡ false → Far at known → All IsPut bs
+    untold at known none far = asked_each bs (votes_known known) (search (arith, rules))
 
-    pub told : (W : Code → Type 0) (at : Death) → are_told_by at ≡ true → (IsDecidedBy tran bs log later known → All W known.votes.items) → Far at
-        → All (Heard W known.commit) bs
-    told W (death.Telling k) some so far = told_each W known.commit k bs known.votes.items (so far.decided) far.told
-    told W death.Told some so far =
-        let Obeys : Branch → Code → Option Code → Ending → Type 0 = λ b v z e. VotesAndObeys A known.commit b v z e (old b.m) (new b.m) in
-        (each_so (λ b. Unit {0}) (Heard W known.commit) W Obeys Obeys (λ b v z e _ w is. (is, record { vote = v; so = w; second = z; ending = e; obeys = is })) bs
-        known.votes.items far.seconds known.endings.items (λ k d lt. tt) (so far.decided) far.each).1
-    told W at some so far = absurd (cc)
+    pub told : (W : Code → Type 0) (at : Death) (known : LastKnown) → are_told_by at ≡ true
+        → ((logged : Bool) → IsDecidedBy tran bs log later (votes_known known) (knows_commit known) logged
+        → All W (votes_known known))
+        → Far at known → All (Heard W (knows_commit known)) bs
+    told W (death.Telling k) (known_as.Decided decision votes) some so far =
+        told_each W decision.commit k bs votes.items (so decision.logged far.decided) far.told
+    told W death.Told (known_as.Told done) some so far =
+        let Obeys : Branch → Code → Option Code → Ending → Type 0 =
+        λ b v z e. VotesAndObeys A done.commit b v z e (old b.m) (new b.m) in
+        (each_so (λ b. Unit {0}) (Heard W done.commit) W Obeys Obeys
+        (λ b v z e _ w is. (is, record { vote = v; so = w; second = z; ending = e; obeys = is })) bs
+        done.votes.items far.seconds done.endings.items (λ k d lt. tt) (so done.logged far.decided) far.each).1
+    told W (death.Telling k) known some so far = absurd far
+    told W death.Told known some so far = absurd far
+    told W at known some so far = absurd (cc)
+
+    -- all have answered, and what became of each is known
+    pub all_told : (at : Death) (done : Outcome) → Far at (known_as.Told done)
+        → CameToEndings A tran bs old new log later done
+    all_told death.Told done far = far
+    all_told at done far = absurd far
 
 -- ---- by the record
 
@@ -99,9 +117,11 @@ module _ (t : ℕ) (old new : ℕ → List Entry) where
 abbrev ByRecord : Bool → Bool → Code → Type 0
 ByRecord commit recorded v = is_yes v ≡ true → commit ≡ recorded
 
-by_record : (tran : TranName) (bs : List Branch) (log later : LogState) (known : Outcome) → record_of log tran ≡ None → IsDecidedBy tran bs log later known
-    → All (ByRecord known.commit (is_recorded later tran)) known.votes.items
-by_record tran bs log later known absent is k d lt y = search (arith, recorded_is, list_any_at, y, known.votes.items, known.logged)
+by_record : (tran : TranName) (bs : List Branch) (log later : LogState) (votes : List Code) (commit logged : Bool)
+    → record_of log tran ≡ None
+    → IsDecidedBy tran bs log later votes commit logged → All (ByRecord commit (is_recorded later tran)) votes
+by_record tran bs log later votes commit logged absent is k d lt y =
+    search (arith, recorded_is, list_any_at, y, votes, logged)
 
 ended_fate : (commit : Bool) → told_fate (if commit then Committed else RolledBack) ≡ Some (ended_as commit)
 ended_fate commit = grind arith
@@ -110,7 +130,8 @@ unasked : (commit : Bool) (x : XidName) → second_op commit x RmFail ≡ None
 unasked commit x = grind arith
 
 -- in a settled opening
-module _ (law : Tabled) (opens : (s : Settling) (m : ℕ) → IsSettled s → (T : Tables) × IsOpenedWith s m T) (s : Settling) (settled : IsSettled s) (t : ℕ)
+module _ (law : Tabled) (opens : (s : Settling) (m : ℕ) → IsSettled s → (T : Tables) × IsOpenedWith s m T)
+    (s : Settling) (settled : IsSettled s) (t : ℕ)
     (old new : Part) (grown : (m : ℕ) → Adds Any (new.entries m) (entries_of t (journal s m))) where
   -- one branch
   module _ (b : Branch) where
@@ -127,28 +148,41 @@ module _ (law : Tabled) (opens : (s : Settling) (m : ℕ) → IsSettled s → (T
     stands : HasAgreed t b old new → (T : Tables) → IsOpenedWith s b.m T → StandsIn t n (Prepare b.xid) Done T H
     stands agreed T with_T =
         let e : Entry = next_entry t (old.entries b.m) (Prepare b.xid) Done in
-        entry_at law s settled t b.m T with_T n e (ap (λ es. slice_get es n) (grown b.m).1 ∙ got_on (new.entries b.m) (grown b.m).0 n e agreed)
+        entry_at law s settled t b.m T with_T n e
+        (ap (λ es. slice_get es n) (grown b.m).1 ∙ got_on (new.entries b.m) (grown b.m).0 n e agreed)
 
     limit : (v : Code) → CarriesOut t (old.entries b.m) (Prepare b.xid) (new.entries b.m) v → last ≤ suc n
     limit v (carried is) =
-        let size = ap (λ l. length l) is in omega (arith, size, length-append (old.entries b.m) (next_entry t (old.entries b.m) (Prepare b.xid) v ∷ []))
+        let size = ap (λ l. length l) is in
+        omega (arith, size, length-append (old.entries b.m) (next_entry t (old.entries b.m) (Prepare b.xid) v ∷ []))
     limit v (withheld fails has same) = let size = ap (λ l. length l) same in omega (arith, size)
 
     -- what it went through in its manager's history, once it was told the decision
-    pub went : (commit : Bool) (v : Code) (z : Option Code) (e : Ending) → VotesAndObeys (CarriesOut t) commit b v z e (old.entries b.m) (new.entries b.m)
+    pub went : (commit : Bool) (v : Code) (z : Option Code) (e : Ending)
+        → VotesAndObeys (CarriesOut t) commit b v z e (old.entries b.m) (new.entries b.m)
         → InHistory law opens s t settled commit (entered_so_far old) (entered_so_far new) b v z e
     went commit v z e is T with_T =
-        let obeys = obeys_entered law s settled t b.m T with_T commit b v z e (old.entries b.m) (new.entries b.m) is ((grown b.m).0, (grown b.m).1) in
-        (course_obeyed (site_of law s settled t b.m T with_T) b commit v z e (entered (old.entries b.m)) (entered (new.entries b.m)) obeys, is.ends)
+        let obeys =
+        obeys_entered law s settled t b.m T with_T commit b v z e (old.entries b.m) (new.entries b.m) is
+        ((grown b.m).0, (grown b.m).1) in (
+          course_obeyed (site_of law s settled t b.m T with_T) b commit v z e (entered (old.entries b.m))
+              (entered (new.entries b.m)) obeys,
+          is.ends,
+        )
 
     -- where others may decide it heuristically
-    module _ (only : OnlyTheseOrDecisionsName b.xid t n last H) (agreed : HasAgreed t b old new) (before : Fate) (first : WasAtFirst s b before)
+    module _ (only : OnlyTheseOrDecisionsName b.xid t n last H) (agreed : HasAgreed t b old new) (before : Fate)
+        (first : WasAtFirst s b before)
         (recorded told_so : Bool) where
-      pub put_ends : told_so ≡ false → IsPut t old.entries new.entries b → EndsSoOrIsDecided s t b n recorded told_so before
+      pub put_ends : told_so ≡ false → IsPut t old.entries new.entries b
+          → EndsSoOrIsDecided s t b n recorded told_so before
       put_ends none put =
-          elim (doubt_or_decided (site_of law s settled t b.m first.first first.opened) b.xid n last only (stands agreed first.first first.opened) (limit put.0 put.1) before) [
-            | inl g ↦ ends_so (doubts (λ y. absurd (let w : true ≡ false = sym y ∙ none in cc)) (first.opened.fates b.xid before ∙ g))
-            | inr d ↦ decided d.0 (first.opened.fates b.xid before ∙ d.1.0) (λ U with_U. decided_alike b.xid t n first.first U H (sym first.opened.codes ∙ with_U.codes) d.1.1)
+          elim (doubt_or_decided (site_of law s settled t b.m first.first first.opened) b.xid n last only
+          (stands agreed first.first first.opened) (limit put.0 put.1) before) [
+            | inl g ↦ ends_so
+                (doubts (λ y. absurd (let w : true ≡ false = sym y ∙ none in cc)) (first.opened.fates b.xid before ∙ g))
+            | inr d ↦ decided d.0 (first.opened.fates b.xid before ∙ d.1.0)
+                (λ U with_U. decided_alike b.xid t n first.first U H (sym first.opened.codes ∙ with_U.codes) d.1.1)
           ]
 
       -- so where it voted to commit it ended by the decision
@@ -157,18 +191,25 @@ module _ (law : Tabled) (opens : (s : Settling) (m : ℕ) → IsSettled s → (T
 
         done : v ≡ Done
         done =
-            by_vote is.prepares ((for_mapped (keeps (CarriesOut t) Any (Begins is.prepared) (λ d e op c _ asks more. begins_on is.prepared d e more (carry_begins t d e op c asks)))
-            (second_op commit b.xid v) z is.prepared (new.entries b.m) (any_asked (second_op commit b.xid v)) is.obeys).on (same_begins is.prepared))
+            by_vote is.prepares
+            ((for_mapped
+            (keeps (CarriesOut t) Any (Begins is.prepared)
+            (λ d e op c _ asks more. begins_on is.prepared d e more (carry_begins t d e op c asks)))
+            (second_op commit b.xid v) z is.prepared (new.entries b.m) (any_asked (second_op commit b.xid v))
+            is.obeys).on (same_begins is.prepared))
           where
             none_added : new.entries b.m ≡ old.entries b.m → ⊥
             none_added same = search (arith, slice_get, slice_get_past)
 
-            by_vote : CarriesOut t (old.entries b.m) (Prepare b.xid) is.prepared v → Begins is.prepared (new.entries b.m) → v ≡ Done
+            by_vote : CarriesOut t (old.entries b.m) (Prepare b.xid) is.prepared v
+                → Begins is.prepared (new.entries b.m) → v ≡ Done
             by_vote (carried added) more = search (arith, append_assoc, slice_get, next_there, some_same, more.0)
             by_vote (withheld fails has same) more = search (arith, unasked, none_added)
 
         fated : Fated law opens s t b n v e
-        fated = one_fated law opens s t settled commit (entered_so_far old) (entered_so_far new) b v z e (went commit v z e is) only
+        fated =
+            one_fated law opens s t settled commit (entered_so_far old) (entered_so_far new) b v z e
+            (went commit v z e is) only
 
         y : is_yes v ≡ true
         y = ap is_yes done
@@ -176,15 +217,20 @@ module _ (law : Tabled) (opens : (s : Settling) (m : ℕ) → IsSettled s → (T
         pub heard_ends : told_so ≡ true → EndsSoOrIsDecided s t b n recorded told_so before
         heard_ends told =
             after_yes (λ w. e ≡ w → EndsSoOrIsDecided s t b n recorded told_so before) commit z
-            (λ is_so. ends_so (ends told (fated.tells.told before (ended_as commit) first (ap told_fate is_so ∙ ended_fate commit) ∙ ap ended_as (h.so y))))
-            (λ is_so. elim (fated.tells.doubt before first (ap is_in_doubt is_so)) [
-              | undecided f ↦ ends_so (doubts (λ _. fated.keeps.shut y (ap is_in_doubt is_so)) f)
+            (λ is_so. ends_so
+            (ends told
+            (fated.tells.told before (ended_as commit) first (ap told_fate is_so ∙ ended_fate commit)
+            ∙ ap ended_as (h.so y))))
+            (λ is_so. elim (fated.tells.doubt before first (ap ends_in_doubt is_so)) [
+              | undecided f ↦ ends_so (doubts (λ _. fated.keeps.shut y (ap ends_in_doubt is_so)) f)
               | was_decided d f after ↦ decided d f after
             ])
             (λ c is_so.
-            let d = fated.named y (ap is_heuristic is_so) in
-            decided d.0 (fated.tells.told before (decided_fate d.0) first d.1) (fated.keeps.decided y (ap is_heuristic is_so)))
-            (λ c is_so. absurd (both_ways (is_left e) (fated.keeps.reached y) (ap is_left is_so))) (is.ends ∙ ap (λ w. ending_of commit w z) done)
+            let d = fated.named y (ap ends_heuristic is_so) in
+            decided d.0 (fated.tells.told before (decided_fate d.0) first d.1)
+            (fated.keeps.decided y (ap ends_heuristic is_so)))
+            (λ c is_so. absurd (both_ways (ends_left e) (fated.keeps.reached y) (ap ends_left is_so)))
+            (is.ends ∙ ap (λ w. ending_of commit w z) done)
 
     -- its thread decides nothing of it
     abbrev IsPlain : Type 0
@@ -193,17 +239,21 @@ module _ (law : Tabled) (opens : (s : Settling) (m : ℕ) → IsSettled s → (T
     put_plain : IsPut t old.entries new.entries b → IsPlain
     put_plain put k d lt own up down = absurd (omega (arith, up, down, limit put.0 put.1))
 
-    heard_plain : (commit recorded : Bool) → Heard t old.entries new.entries (ByRecord commit recorded) commit b → IsPlain
+    heard_plain : (commit recorded : Bool) → Heard t old.entries new.entries (ByRecord commit recorded) commit b
+        → IsPlain
     heard_plain commit recorded h =
         let open_ = opens s b.m settled in
         own_plain (went commit h.vote h.second h.ending h.obeys open_.0 open_.1).0
 
     -- so where nobody else names it, no decision of it was carried out
-    undecided_so : OnlyTheseName b.xid t n last H → IsPlain → (recorded told : Bool) (before : Fate) → EndsSoOrIsDecided s t b n recorded told before
+    undecided_so : OnlyTheseName b.xid t n last H → IsPlain → (recorded told : Bool) (before : Fate)
+        → EndsSoOrIsDecided s t b n recorded told before
         → EndsByTheRecord s t b n recorded told before
     undecided_so only plain recorded told before (ends_so is) = is
     undecided_so only plain recorded told before (decided d f after) =
-        let open_ = opens s b.m settled in absurd (none_decides (site_of law s settled t b.m open_.0 open_.1) b.xid n last only plain (after open_.0 open_.1))
+        let open_ = opens s b.m settled in
+        absurd
+        (none_decides (site_of law s settled t b.m open_.0 open_.1) b.xid n last only plain (after open_.0 open_.1))
 
   -- ---- all of them
 
@@ -214,68 +264,99 @@ module _ (law : Tabled) (opens : (s : Settling) (m : ℕ) → IsSettled s → (T
     abbrev recorded : Bool
     recorded = is_recorded new.log (named c)
 
-    weaker : AreLeftAlone s t own (entered_so_far old) (entered_so_far new) → AreLeftOrDecided s t own (entered_so_far old) (entered_so_far new)
+    weaker : AreLeftAlone s t own (entered_so_far old) (entered_so_far new)
+        → AreLeftOrDecided s t own (entered_so_far old) (entered_so_far new)
     weaker alone = search (arith, rules)
 
-    module _ (votes : List Code) (is : LosesSight t c votes old new) where
+    module _ (votes : Vec Code Global) (is : TakesCommit t c (outcome.Undecided votes) old new) where
       put : All (IsPut t old.entries new.entries) own
-      put = asked_each t old.entries new.entries own votes is.asked
+      put = asked_each t old.entries new.entries own votes.items is.course.1.asked
 
-      pub undecided_unless : AreLeftOrDecided s t own (entered_so_far old) (entered_so_far new) → EndSoOrAreDecided s t own recorded false old new
+      pub undecided_unless : AreLeftOrDecided s t own (entered_so_far old) (entered_so_far new)
+          → EndSoOrAreDecided s t own recorded false old new
       undecided_unless alone =
-          record { each = λ k d lt agreed before first. put_ends (get_or own k d) (alone.each k d lt) agreed before first recorded false refl (put k d lt) }
+          record {
+            each = λ k d lt agreed before first. put_ends (get_or own k d) (alone.each k d lt) agreed before
+                first recorded false refl (put k d lt);
+          }
 
-      pub undecided_ends : AreLeftAlone s t own (entered_so_far old) (entered_so_far new) → EndByTheRecord s t own recorded false old new
+      pub undecided_ends : AreLeftAlone s t own (entered_so_far old) (entered_so_far new)
+          → EndByTheRecord s t own recorded false old new
       undecided_ends alone = record {
         each = λ k d lt agreed before first.
-            undecided_so (get_or own k d) (alone.each k d lt) (put_plain (get_or own k d) (put k d lt)) recorded false before ((undecided_unless (weaker alone)).each k d lt agreed before first);
+            undecided_so (get_or own k d) (alone.each k d lt) (put_plain (get_or own k d) (put k d lt)) recorded false
+            before ((undecided_unless (weaker alone)).each k d lt agreed before first);
       }
 
-    module _ (at : Death) (known : Outcome) (is : StopsAt t c at known old new) where
+    module _ (at : Death) (known : LastKnown) (is : TakesCommit t c (outcome.Died at known) old new) where
+      abbrev commit : Bool
+      commit = knows_commit known
+
       abbrev WasHeard : Branch → Type 0
-      WasHeard = Heard t old.entries new.entries (ByRecord known.commit recorded) known.commit
+      WasHeard = Heard t old.entries new.entries (ByRecord commit recorded) commit
 
       -- each was told the decision, or none was
       how : (k : ℕ) (d : Branch) → k < length own
-          → ((are_told_by at ≡ false) × IsPut t old.entries new.entries (get_or own k d)) ⊎ ((are_told_by at ≡ true) × WasHeard (get_or own k d))
+          → ((are_told_by at ≡ false) × IsPut t old.entries new.entries (get_or own k d)) ⊎
+          ((are_told_by at ≡ true) × WasHeard (get_or own k d))
       how = elim (cases_Bool (are_told_by at)) [
-        | inr none ↦ λ k d lt. inl (none, untold t old.entries new.entries (named c) own old.log new.log known at none is.course.far k d lt)
+        | inr none ↦ λ k d lt. inl
+            (none, untold t old.entries new.entries (named c) own old.log new.log at known none is.course.1.far k d lt)
         | inl some ↦ λ k d lt.
-            inr (some, told t old.entries new.entries (named c) own old.log new.log known (ByRecord known.commit recorded) at some (by_record (named c) own old.log new.log known is.unlogged) is.course.far k d lt)
+            inr (
+              some,
+              told t old.entries new.entries (named c) own old.log new.log (ByRecord commit recorded) at known
+                  some (λ logged. by_record (named c) own old.log new.log (votes_known known) commit logged is.unlogged)
+                  is.course.1.far k d lt,
+            )
       ]
 
       plain : (k : ℕ) (d : Branch) → k < length own → IsPlain (get_or own k d)
-      plain k d lt = elim (how k d lt) [ inl put ↦ put_plain (get_or own k d) put.1 | inr heard ↦ heard_plain (get_or own k d) known.commit recorded heard.1 ]
+      plain k d lt =
+          elim (how k d lt) [
+            | inl put ↦ put_plain (get_or own k d) put.1
+            | inr heard ↦ heard_plain (get_or own k d) commit recorded
+                heard.1
+          ]
 
-      abbrev Obeys : Branch → Code → Option Code → Ending → Type 0
-      Obeys b v z e = VotesAndObeys (CarriesOut t) known.commit b v z e (old.entries b.m) (new.entries b.m)
+      abbrev Obeys : Bool → Branch → Code → Option Code → Ending → Type 0
+      Obeys commit b v z e = VotesAndObeys (CarriesOut t) commit b v z e (old.entries b.m) (new.entries b.m)
 
-      far : at ≡ death.Told → CameTo (CarriesOut t) (CarriesOutSome t) death.Told (named c) own old.entries new.entries old.log new.log known
-      far whole = rw whole at is.course.far
+      far : (done : Outcome) → known ≡ known_as.Told done
+          → CameToEndings (CarriesOut t) (named c) own old.entries new.entries old.log new.log done
+      far done whole =
+          all_told t old.entries new.entries (named c) own old.log new.log at done (rw whole at is.course.1.far)
 
-      pub as_far_unless : AreLeftOrDecided s t own (entered_so_far old) (entered_so_far new) → IsAsFarUnlessDecided s t c at known old new
+      pub as_far_unless : AreLeftOrDecided s t own (entered_so_far old) (entered_so_far new)
+          → IsAsFarUnlessDecided s t c at known old new
       as_far_unless alone = record {
         by_record = record {
           each = λ k d lt agreed before first. elim (how k d lt) [
-            | inl put ↦ put_ends (get_or own k d) (alone.each k d lt) agreed before first recorded (are_told_by at) put.0 put.1
-            | inr heard ↦ heard_ends (get_or own k d) (alone.each k d lt) agreed before first recorded (are_told_by at) known.commit heard.1 heard.0
+            | inl put ↦ put_ends (get_or own k d) (alone.each k d lt) agreed before first recorded (are_told_by at)
+                put.0 put.1
+            | inr heard ↦ heard_ends (get_or own k d) (alone.each k d lt) agreed before first recorded (are_told_by at)
+                commit heard.1 heard.0
           ];
         };
-        as_shown = λ whole.
-            let came = far whole in
-            as_shown Obeys own came.seconds known (λ b v z e is. is.ends) came.each came.decided.decision law opens s settled t old new (λ b. went b known.commit) alone;
+        as_shown = λ done whole.
+            let came = far done whole in
+            as_shown (Obeys done.commit) own came.seconds done (λ b v z e is. is.ends) came.each came.decided.decision
+            law opens s settled t old new (λ b. went b done.commit) alone;
       }
 
-      pub as_far_as_shown : AreLeftAlone s t own (entered_so_far old) (entered_so_far new) → IsAsFarAsShown s t c at known old new
+      pub as_far_as_shown : AreLeftAlone s t own (entered_so_far old) (entered_so_far new)
+          → IsAsFarAsShown s t c at known old new
       as_far_as_shown alone =
           let unless = as_far_unless (weaker alone) in
           record {
             by_record = record {
               each = λ k d lt agreed before first.
-                  undecided_so (get_or own k d) (alone.each k d lt) (plain k d lt) recorded (are_told_by at) before (unless.by_record.each k d lt agreed before first);
+                  undecided_so (get_or own k d) (alone.each k d lt) (plain k d lt) recorded (are_told_by at) before
+                  (unless.by_record.each k d lt agreed before first);
             };
             as_shown = unless.as_shown;
-            counts = λ whole.
-                let came = far whole in
-                counts_as_shown Obeys own came.seconds known (λ b v z e is. is.ends) came.each came.decided.decision law opens s settled t old new (λ b. went b known.commit) alone;
+            counts = λ done whole.
+                let came = far done whole in
+                counts_as_shown (Obeys done.commit) own came.seconds done (λ b v z e is. is.ends) came.each
+                came.decided.decision law opens s settled t old new (λ b. went b done.commit) alone;
           }

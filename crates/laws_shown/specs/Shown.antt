@@ -11,8 +11,9 @@ use Rattle.xa_switch.specs.Settled.{Settling, journal}
 use Rattle.xa_switch.specs.Fates.{IsOpenedWith}
 use Rattle.xa_scan.specs.Left.{ScanView, left_at}
 use Rattle.xa_driver.specs.declared.branch.Branch.{Branch}
+use Rattle.xa_driver.specs.declared.done.CommitOutcome.TheVariants as outcome
 use Rattle.xa_driver.specs.declared.done.Done.{Done}
-use Rattle.laws_commit.specs.Outcomes.{is_committed, is_in_doubt, is_heuristic, is_read_only, has_committed}
+use Rattle.laws_commit.specs.Outcomes.{ends_committed, ends_in_doubt, ends_heuristic, ends_read_only, has_committed}
 use Rattle.laws_commit.specs.Outcomes.{has_rolled_back}
 use Rattle.laws_commit.specs.Outcomes.{EachOutcome, KeepsTheVotes, TellsTheFates}
 use Rattle.laws_commit.specs.Additions.{CountsTheCommitted, Shares}
@@ -23,12 +24,12 @@ use Rattle.script_grammar.specs.declared.step.Action.TheVariants as action
 use Rattle.script_grammar.specs.Steps.{ScriptCall, ScriptAction, ScriptTask, ScriptStep}
 use Rattle.script_grammar.specs.declared.script.Declared.{Declared}
 use Rattle.script_grammar.specs.Contents.{Content, tasks_of}
-use Rattle.script_transcript.specs.declared.answer.Told.{Told}
+use Rattle.script_transcript.specs.declared.answer.TranscriptLine.{TranscriptLine}
 use Rattle.script_session.specs.Committing.{branches_of}
 use Rattle.laws_transcript.specs.Parts.{Part, entered_so_far}
 use Rattle.laws_transcript.specs.Journals.{Line, TakesPart, AreCarriedOut, ShowsCommit, entries_of}
-use Rattle.laws_transcript.specs.ToldOpenings.{Opening, Former, settled_over}
-use Rattle.script_transcript.specs.Values.{opened, histories, opened_after}
+use Rattle.laws_transcript.specs.ToldOpenings.{ToldOpening, Former, settled_over}
+use Rattle.script_transcript.specs.Values.{opened, histories_at, opened_after}
 
 -- ---- by the line alone
 
@@ -39,13 +40,15 @@ pub record IsOneOutcome (done : Done) : Type 0 where
 
 -- So it is where the line is a commit of several branches.
 abbrev pub ShowsOneOutcome : Line → Type 0
-ShowsOneOutcome l = (c : CommitAll TranName) (done : Done) → ShowsCommit l c done → IsOneOutcome done
+ShowsOneOutcome l = (c : CommitAll TranName) (done : Done) → ShowsCommit l c (outcome.Decided done)
+    → IsOneOutcome done
 
 -- ---- who else names its branches
 
 -- A line's place among those of its thread: the lines before it have made `old` of the thread's part, it makes `new` of
 -- that, and those after it all that is left in the end.
-pub record LinePlace {steps : List ScriptStep} {answers : List Told} {settled : Settling} {t : ℕ} {first : Part}
+pub record LinePlace {steps : List ScriptStep} {answers : List TranscriptLine} {settled : Settling} {t : ℕ}
+    {first : Part}
     (told : AreCarriedOut steps answers settled t first) (before : List Line) (l : Line) (after : List Line)
     (old new : Part) : Type 0 where
   pub lines : told.lines ≡ before ++ l ∷ after
@@ -67,14 +70,14 @@ branches_by m (manager_call.Heur x commits) = record { m = m; xid = x } ∷ []
 branches_by m other = []
 
 -- The branch is among them, by its manager and its xid.
-abbrev pub is_among : Branch → List Branch → Bool
-is_among b bs = list_any (λ c. (c.m == b.m) && xid_eq c.xid b.xid) bs
+abbrev pub is_branch_among : Branch → List Branch → Bool
+is_branch_among b bs = list_any (λ c. (c.m == b.m) && xid_eq c.xid b.xid) bs
 
 -- What a thread with these scans does names the branch: a commit names all its own, and a resolve those that its
 -- thread's scans have as left.
 abbrev pub names_it : ScanView → Branch → ScriptAction → Bool
-names_it z b (action.Call q) = is_among b (branches_by q.manager q.call)
-names_it z b (action.CommitAll c) = is_among b (branches_of c)
+names_it z b (action.Call q) = is_branch_among b (branches_by q.manager q.call)
+names_it z b (action.CommitAll c) = is_branch_among b (branches_of c)
 names_it z b action.Resolve = list_any (λ x. xid_eq x b.xid) (left_at z b.m)
 
 -- The task names none of these branches.
@@ -98,7 +101,8 @@ pub record IsAsShown (settled : Settling) (t : ℕ) (bs : List Branch) (old : Pa
   -- where it shows `commit`, each branch is shown as committed that isn't shown as read only, in doubt, or decided
   -- heuristically
   pub committed : done.commit ≡ true
-      → All (λ e. (is_committed e || (is_read_only e || (is_in_doubt e || is_heuristic e))) ≡ true) done.endings.items
+      → All (λ e. (ends_committed e || (ends_read_only e || (ends_in_doubt e || ends_heuristic e)))
+      ≡ true) done.endings.items
   -- where it shows `abort`, none is
   pub aborted : done.commit ≡ false → has_committed done ≡ false
   -- one that voted to commit is in doubt only where its manager was shut before the place of its second request, and
@@ -112,18 +116,18 @@ pub record CountsAsShown (settled : Settling) (t : ℕ) (bs : List Branch) (old 
   -- of each branch the additions count exactly where it is shown as committed
   pub counts : CountsTheCommitted settled t bs (entered_so_far old) done
   -- so where none is shown as in doubt, all additions of the transaction count on `commit`, and none on `abort`
-  pub whole : list_any is_in_doubt done.endings.items ≡ false
+  pub whole : list_any ends_in_doubt done.endings.items ≡ false
       → EachOutcome (λ b v e. Shares settled t b (length (old.entries b.m)) done.commit)
       bs done.votes.items done.endings.items
 
 -- A key is shown with its value at the first opening and what the requests in its manager's journals have added to it,
 -- each accepted addition whose branch commits later, in its opening or in another. Each journal follows the tables that
 -- the openings before it left.
-pub record IsSumOfShares (s : Content) (before : List Former) (last : Opening) (d : Declared) : Type 0 where
+pub record IsSumOfShares (s : Content) (before : List Former) (last : ToldOpening) (d : Declared) : Type 0 where
   pub former : (xs : List Former) (f : Former) (ys : List Former) → before ≡ xs ++ f ∷ ys
       → IsOpenedWith f.opening.settled d.manager (opened_after s (map (λ g. g.opening.settled) xs) d.manager)
   pub latest : IsOpenedWith last.settled d.manager (opened_after s (map (λ g. g.opening.settled) before) d.manager)
   pub first : ℤ
   pub at_first : finmap.get (opened s d.manager).values d.key ≡ Some first
   pub sum : pos d.value
-      ≡ first +ℤ added_over d.key (λ x. Absent) (histories (settled_over before last) d.manager) (opened s d.manager)
+      ≡ first +ℤ added_over d.key (λ x. Absent) (histories_at (settled_over before last) d.manager) (opened s d.manager)

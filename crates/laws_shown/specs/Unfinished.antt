@@ -1,7 +1,6 @@
 -- What became of the branches of a commit that came to no end, by the line that shows it: its coordinator died, or an
 -- append of its record had an unknown end.
-use Rattle.std.specs.Prelude.{◌≡◌, ℕ, ◌+◌, Bool, true, false, Some, All, List, Vec, length, slice_get}
-use Rattle.std.specs.Global.{Global}
+use Rattle.std.specs.Prelude.{◌≡◌, ℕ, ◌+◌, Bool, true, false, Some, All, List, length, slice_get}
 use Rattle.std.specs.List.{list_any}
 use Rattle.xa_words.specs.Tran.{TranName}
 use Rattle.xa_words.specs.declared.code.Code.{Code}
@@ -17,44 +16,32 @@ use Rattle.xa_switch.specs.Fates.{history as history_of, settled_fate}
 use Rattle.xa_driver.specs.declared.branch.Branch.{Branch}
 use Rattle.xa_driver.specs.declared.done.Done.{Done}
 use Rattle.xa_driver.specs.declared.done.Ending.{Ending}
+use Rattle.xa_driver.specs.declared.done.LastKnown.{LastKnown}
+use Rattle.xa_driver.specs.declared.done.LastKnown.TheVariants as known_as
 use Rattle.xa_driver.specs.Commits.{is_commit}
 use Rattle.xa_driver.specs.Decision.{is_no}
 use Rattle.laws_commit.specs.Cut.{is_recorded, is_rollback}
-use Rattle.laws_commit.specs.Outcomes.{IsAfterShut, WasAtFirst, WasDecidedAfter, is_committed, is_rolled_back}
+use Rattle.laws_commit.specs.Outcomes.{IsAfterShut, WasAtFirst, WasDecidedAfter, ends_committed, ends_rolled_back}
 use Rattle.laws_commit.specs.Resolution.{ended_as}
 use Rattle.script_grammar.specs.declared.step.CommitAll.{CommitAll}
-use Rattle.script_grammar.specs.declared.step.Action.TheVariants as action
-use Rattle.script_transcript.specs.declared.answer.Answer.TheVariants as answer
 use Rattle.script_session.specs.Committing.{branches_of, named}
 use Rattle.laws_transcript.specs.Parts.{Part, next_entry}
-use Rattle.laws_transcript.specs.Journals.{AddsNone, Line}
+use Rattle.laws_transcript.specs.Journals.{AddsNone}
 use Rattle.laws_shown.specs.Shown.{CountsAsShown, IsAsShown}
-
--- ---- what the line shows
-
--- The line is a commit of several branches whose coordinator died at this point, and this was known of it then.
-pub record ShowsDeath (l : Line) (c : CommitAll TranName) (at : Death) (known : Done) : Type 0 where
-  pub asks : l.task.action ≡ action.CommitAll c
-  pub tells : l.answer ≡ answer.Died at known
-
--- The line is a commit of several branches that came to no decision that is known, by these votes.
-pub record ShowsUndecided (l : Line) (c : CommitAll TranName) (votes : Vec Code Global) : Type 0 where
-  pub asks : l.task.action ≡ action.CommitAll c
-  pub tells : l.answer ≡ answer.Undecided votes
 
 -- ---- by the line alone
 
 -- A commit that shows these votes and these endings goes by the record that its thread's log has, or turns out to have,
 -- after the line.
-pub record GoesByTheRecord (tran : TranName) (votes : List Code) (endings : List Ending) (old new : Part)
+pub record IsShownByTheRecord (tran : TranName) (votes : List Code) (endings : List Ending) (old new : Part)
     : Type 0 where
   -- without one, it added no Commit to any journal, and shows no branch as committed
   pub unsent : is_recorded new.log tran ≡ false → (m : ℕ) → AddsNone is_commit (old.entries m) (new.entries m)
-  pub uncommitted : is_recorded new.log tran ≡ false → list_any is_committed endings ≡ false
+  pub uncommitted : is_recorded new.log tran ≡ false → list_any ends_committed endings ≡ false
   -- with one, no vote was against, it added no Rollback, and shows no branch as rolled back
   pub unopposed : is_recorded new.log tran ≡ true → list_any is_no votes ≡ false
   pub kept : is_recorded new.log tran ≡ true → (m : ℕ) → AddsNone is_rollback (old.entries m) (new.entries m)
-  pub committed : is_recorded new.log tran ≡ true → list_any is_rolled_back endings ≡ false
+  pub committed : is_recorded new.log tran ≡ true → list_any ends_rolled_back endings ≡ false
 
 -- ---- what became of its branches
 
@@ -104,18 +91,18 @@ pub record EndSoOrAreDecided (s : Settling) (t : ℕ) (bs : List Branch) (record
       → EndsSoOrIsDecided s t b (length (old.entries b.m)) recorded told before)
       bs
 
--- What became of the branches of a commit of thread t whose coordinator died at this point, which others may have
--- decided heuristically.
-pub record IsAsFarUnlessDecided (s : Settling) (t : ℕ) (c : CommitAll TranName) (at : Death) (known : Done)
+-- What became of the branches of a commit of thread t whose coordinator died at this point and knew this then, which
+-- others may have decided heuristically.
+pub record IsAsFarUnlessDecided (s : Settling) (t : ℕ) (c : CommitAll TranName) (at : Death) (known : LastKnown)
     (old new : Part) : Type 0 where
   pub by_record : EndSoOrAreDecided s t (branches_of c) (is_recorded new.log (named c)) (are_told_by at) old new
-  pub as_shown : at ≡ Told → IsAsShown s t (branches_of c) old known
+  pub as_shown : (done : Done) → known ≡ known_as.Told done → IsAsShown s t (branches_of c) old done
 
--- What became of the branches of a commit of thread t whose coordinator died at this point: those that voted to commit
--- ended by the record, and where all have answered the decision, what is shown of each became of it, and the values
--- count what is shown as committed.
-pub record IsAsFarAsShown (s : Settling) (t : ℕ) (c : CommitAll TranName) (at : Death) (known : Done) (old new : Part)
-    : Type 0 where
+-- What became of the branches of a commit of thread t whose coordinator died at this point and knew this then: those
+-- that voted to commit ended by the record, and where all have answered the decision, what is shown of each became of
+-- it, and the values count what is shown as committed.
+pub record IsAsFarAsShown (s : Settling) (t : ℕ) (c : CommitAll TranName) (at : Death) (known : LastKnown)
+    (old new : Part) : Type 0 where
   pub by_record : EndByTheRecord s t (branches_of c) (is_recorded new.log (named c)) (are_told_by at) old new
-  pub as_shown : at ≡ Told → IsAsShown s t (branches_of c) old known
-  pub counts : at ≡ Told → CountsAsShown s t (branches_of c) old known
+  pub as_shown : (done : Done) → known ≡ known_as.Told done → IsAsShown s t (branches_of c) old done
+  pub counts : (done : Done) → known ≡ known_as.Told done → CountsAsShown s t (branches_of c) old done

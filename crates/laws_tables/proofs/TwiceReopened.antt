@@ -23,7 +23,8 @@ same_states T x =
     ∙ kept_twice (is_left T x) (state_of T x)
     ∙ sym (state_reopened T x)
 
-same_sums : (T : Tables) (x : XidName) (k : List ℕ) → map.get (reopened (reopened T)).sums (x, k) ≡ map.get (reopened T).sums (x, k)
+same_sums : (T : Tables) (x : XidName) (k : List ℕ)
+    → map.get (reopened (reopened T)).sums (x, k) ≡ map.get (reopened T).sums (x, k)
 same_sums T x k =
     sums_reopened (reopened T) x k
     ∙ ap (λ b. cond b (map.get (reopened T).sums (x, k)) None) (as_prepared T x)
@@ -36,8 +37,10 @@ pub again_the_same : (T : Tables) → reopened (reopened T) ≡ reopened T
 again_the_same T i = record {
   opened = set.empty;
   associations = map.empty;
-  states = same_map xid_cmp_total xid_cmp-IsAntisymmetric (reopened (reopened T)).states (reopened T).states (same_states T) i;
-  sums = same_map touch_cmp_total touch_cmp-IsAntisymmetric (reopened (reopened T)).sums (reopened T).sums (λ p. same_sums T p.0 p.1) i;
+  states = same_map xid_cmp_total xid_cmp-IsAntisymmetric (reopened (reopened T)).states (reopened T).states
+      (same_states T) i;
+  sums = same_map touch_cmp_total touch_cmp-IsAntisymmetric (reopened (reopened T)).sums (reopened T).sums
+      (λ p. same_sums T p.0 p.1) i;
   values = T.values;
   shut = false;
 }

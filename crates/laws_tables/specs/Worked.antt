@@ -24,52 +24,54 @@ abbrev pub branch : XidName
 branch = record { format = pos 1; gtrid = codes "g"; bqual = codes "1" }
 
 -- a request of thread 1, and its code
-abbrev pub entry : Op → Code → Request × Code
-entry op code = (record { thread = 1; number = 0; op = op }, code)
+abbrev pub worked_entry : Op → Code → Request × Code
+worked_entry op code = (record { thread = 1; number = 0; op = op }, code)
 
 -- the branch adds to a key, and its work ends
 abbrev pub worked : List (Request × Code)
 worked =
-    entry (Start branch Fresh) Done ∷ entry (Add (codes "a") (neg_ℤ (pos 30))) Done ∷ entry
+    worked_entry (Start branch Fresh) Done ∷ worked_entry (Add (codes "a") (neg_ℤ (pos 30))) Done ∷ worked_entry
     (End branch Success) Done ∷ []
 
 -- it votes yes
-abbrev pub voted : List (Request × Code)
-voted = worked ++ entry (Prepare branch) Done ∷ []
+abbrev pub voted_history : List (Request × Code)
+voted_history = worked ++ worked_entry (Prepare branch) Done ∷ []
 
 -- it commits
 abbrev pub transferred : List (Request × Code)
-transferred = voted ++ entry (Commit branch false) Done ∷ []
+transferred = voted_history ++ worked_entry (Commit branch false) Done ∷ []
 
 -- it votes yes and is rolled back
 abbrev pub undone : List (Request × Code)
-undone = voted ++ entry (Rollback branch) Done ∷ []
+undone = voted_history ++ worked_entry (Rollback branch) Done ∷ []
 
 -- it would take a value out of range
 abbrev pub overdrawn : List (Request × Code)
-overdrawn = worked ++ entry (Prepare branch) RbIntegrity ∷ entry (Commit branch false) Nota ∷ []
+overdrawn = worked ++ worked_entry (Prepare branch) RbIntegrity ∷ worked_entry (Commit branch false) Nota ∷ []
 
 -- it changes nothing
 abbrev pub unchanged : List (Request × Code)
 unchanged =
-    entry (Start branch Fresh) Done ∷ entry (End branch Success) Done ∷ entry (Prepare branch) RdOnly ∷ entry
+    worked_entry (Start branch Fresh) Done ∷ worked_entry (End branch Success) Done
+    ∷ worked_entry (Prepare branch) RdOnly ∷ worked_entry
     (Commit branch false) Nota ∷ []
 
 -- its work fails, and it is rolled back with its reason
-abbrev pub failed : List (Request × Code)
-failed = entry (Start branch Fresh) Done ∷ entry (End branch Fail) RbRollback ∷ entry (Rollback branch) RbRollback ∷ []
+abbrev pub failed_history : List (Request × Code)
+failed_history = worked_entry (Start branch Fresh) Done ∷ worked_entry (End branch Fail) RbRollback
+    ∷ worked_entry (Rollback branch) RbRollback ∷ []
 
 -- it begins again after it committed
 abbrev pub begun_again : List (Request × Code)
-begun_again = transferred ++ entry (Start branch Fresh) Done ∷ []
+begun_again = transferred ++ worked_entry (Start branch Fresh) Done ∷ []
 
 -- it votes yes and is committed by a heuristic decision, which its Rollback is told
-abbrev pub decided : List (Request × Code)
-decided = voted ++ entry (Heur branch true) Done ∷ entry (Rollback branch) HeurCom ∷ []
+abbrev pub decided_history : List (Request × Code)
+decided_history = voted_history ++ worked_entry (Heur branch true) Done ∷ worked_entry (Rollback branch) HeurCom ∷ []
 
 -- it votes yes and is rolled back by a heuristic decision, which is forgotten
-abbrev pub forgotten : List (Request × Code)
-forgotten = voted ++ entry (Heur branch false) Done ∷ entry (Forget branch) Done ∷ []
+abbrev pub forgotten_history : List (Request × Code)
+forgotten_history = voted_history ++ worked_entry (Heur branch false) Done ∷ worked_entry (Forget branch) Done ∷ []
 
 -- ---- in two openings, one after the other
 
@@ -79,42 +81,42 @@ fate_after first second = fate_in branch (reopened_fate (fate_in branch Absent f
 
 -- what the first opening left prepared is committed
 abbrev pub committed_later : List (Request × Code)
-committed_later = entry (Commit branch false) Done ∷ []
+committed_later = worked_entry (Commit branch false) Done ∷ []
 
 -- or rolled back
 abbrev pub rolled_back_later : List (Request × Code)
-rolled_back_later = entry (Rollback branch) Done ∷ []
+rolled_back_later = worked_entry (Rollback branch) Done ∷ []
 
 -- what it left at work is gone
 abbrev pub gone_later : List (Request × Code)
-gone_later = entry (Commit branch false) Nota ∷ []
+gone_later = worked_entry (Commit branch false) Nota ∷ []
 
 -- what it left heuristically completed is forgotten
 abbrev pub forgotten_later : List (Request × Code)
-forgotten_later = entry (Forget branch) Done ∷ []
+forgotten_later = worked_entry (Forget branch) Done ∷ []
 
 -- after its addition its work ends
 abbrev pub ended_then : List (Request × Code)
-ended_then = entry (End branch Success) Done ∷ []
+ended_then = worked_entry (End branch Success) Done ∷ []
 
 -- and it votes yes
 abbrev pub voted_then : List (Request × Code)
-voted_then = ended_then ++ entry (Prepare branch) Done ∷ []
+voted_then = ended_then ++ worked_entry (Prepare branch) Done ∷ []
 
 -- and it is committed by a heuristic decision
 abbrev pub decided_then : List (Request × Code)
-decided_then = voted_then ++ entry (Heur branch true) Done ∷ []
+decided_then = voted_then ++ worked_entry (Heur branch true) Done ∷ []
 
 -- whether a branch that has just added commits in the rest of its opening or in the second
-abbrev pub commits_after : List (Request × Code) → List (Request × Code) → XidName → Bool
-commits_after rest second x =
+abbrev pub commits_after_adding : List (Request × Code) → List (Request × Code) → XidName → Bool
+commits_after_adding rest second x =
     commits_later (if is_live (fate_in x Live rest) then false else commits_later false x second) x rest
 
 -- what becomes of 100 that the branch takes 30 from
 abbrev pub value_after : List (Request × Code) → List (Request × Code) → ℤ
 value_after rest second =
     pos 100 +ℤ share_of (codes "a") (Add (codes "a") (neg_ℤ (pos 30))) Done (Some (association branch Associated))
-    (commits_after rest second)
+    (commits_after_adding rest second)
 
 -- ---- what a store has of a manager
 

@@ -11,7 +11,7 @@ ghost use Rattle.xa_words.specs.Codes.{is_rolled_back};
 ghost use Rattle.xa_tables.specs.Openings.{IsOpening};
 ghost use Rattle.xa_tables.specs.Next.{next};
 ghost use Rattle.xa_tables.specs.Prepared.{NamesNowhere, OnlyDecides, LeavesWaiting, StaysAsItWas, IsPrepared};
-ghost use Rattle.xa_tables.specs.Prepared.{StaysPrepared, AwaitsAfter, IsTold};
+ghost use Rattle.xa_tables.specs.Prepared.{StaysPrepared, AwaitsAfter, IsToldDecision};
 
 /// Whatever is requested, a branch is active exactly while somebody is associated with it, suspended or
 /// not, and it is neither prepared nor rollback-only nor heuristically completed.
@@ -55,9 +55,9 @@ pub fn only_prepared_branches_are_decided()
 /// and change nothing then.
 pub fn only_completed_branches_tell_a_decision()
     ensures commits { (t : ℕ) (x : XidName) (d : HeuristicDecision) (T : Tables)
-        → (next t (Commit x false) T).1 ≡ decision_code d → IsTold x d T (next t (Commit x false) T) }
+        → (next t (Commit x false) T).1 ≡ decision_code d → IsToldDecision x d T (next t (Commit x false) T) }
     ensures rolls_back { (t : ℕ) (x : XidName) (d : HeuristicDecision) (T : Tables)
-        → (next t (Rollback x) T).1 ≡ decision_code d → IsTold x d T (next t (Rollback x) T) }
+        → (next t (Rollback x) T).1 ≡ decision_code d → IsToldDecision x d T (next t (Rollback x) T) }
 {}
 
 /// A Prepare that rolls its branch back answers XA_RBINTEGRITY.

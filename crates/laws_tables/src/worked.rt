@@ -1,10 +1,10 @@
 //! Worked histories, openings and stores.
 ghost use Rattle.std.specs.Prelude.{◌≡◌, ◌++◌, ◌∷◌, pos, codes, [], None, Some};
-ghost use Rattle.laws_tables.specs.Worked.{branch, worked, voted, transferred, undone, overdrawn, unchanged, failed};
-ghost use Rattle.laws_tables.specs.Worked.{begun_again, decided, two_keys, two_prepared, one_completed, another};
-ghost use Rattle.laws_tables.specs.Worked.{adding, taking, fate_after, committed_later, rolled_back_later};
-ghost use Rattle.laws_tables.specs.Worked.{gone_later, forgotten_later, value_after, ended_then, voted_then};
-ghost use Rattle.laws_tables.specs.Worked.{decided_then, forgotten};
+ghost use Rattle.laws_tables.specs.Worked.{branch, worked, voted_history, transferred, undone, overdrawn, unchanged};
+ghost use Rattle.laws_tables.specs.Worked.{failed_history, begun_again, decided_history, two_keys, two_prepared};
+ghost use Rattle.laws_tables.specs.Worked.{one_completed, another, adding, taking, fate_after, committed_later};
+ghost use Rattle.laws_tables.specs.Worked.{rolled_back_later, gone_later, forgotten_later, value_after, ended_then};
+ghost use Rattle.laws_tables.specs.Worked.{voted_then, decided_then, forgotten_history};
 ghost use Rattle.xa_tables.specs.Histories.{fate_in, Absent, Live, InDoubt, Committed, ReadOnly, RolledBack};
 ghost use Rattle.xa_tables.specs.Histories.{HeurCommitted, HeurRolledBack};
 ghost use Rattle.xa_tables.specs.declared.state.State.TheVariants.{Idle};
@@ -18,25 +18,25 @@ ghost use Rattle.xa_tables.specs.Restored.{stored, fault_of};
 pub fn worked_fates()
     ensures absent { fate_in branch Absent [] ≡ Absent }
     ensures worked { fate_in branch Absent worked ≡ Live }
-    ensures voted { fate_in branch Absent voted ≡ InDoubt }
+    ensures voted { fate_in branch Absent voted_history ≡ InDoubt }
     ensures transferred { fate_in branch Absent transferred ≡ Committed }
     ensures undone { fate_in branch Absent undone ≡ RolledBack }
     ensures overdrawn { fate_in branch Absent overdrawn ≡ RolledBack }
     ensures unchanged { fate_in branch Absent unchanged ≡ ReadOnly }
-    ensures failed { fate_in branch Absent failed ≡ RolledBack }
+    ensures failed { fate_in branch Absent failed_history ≡ RolledBack }
     ensures begun_again { fate_in branch Absent begun_again ≡ Live }
-    ensures decided { fate_in branch Absent decided ≡ HeurCommitted }
-    ensures forgotten { fate_in branch Absent forgotten ≡ HeurRolledBack }
+    ensures decided { fate_in branch Absent decided_history ≡ HeurCommitted }
+    ensures forgotten { fate_in branch Absent forgotten_history ≡ HeurRolledBack }
 {}
 
 /// The fates of the branch in two worked openings: what the first leaves prepared waits until the second commits it or
 /// rolls it back, what it leaves at work was rolled back, and a heuristic decision stands, also where it is forgotten.
 pub fn worked_fates_over_openings()
-    ensures waits { fate_after voted [] ≡ InDoubt }
-    ensures committed { fate_after voted committed_later ≡ Committed }
-    ensures rolled_back { fate_after voted rolled_back_later ≡ RolledBack }
+    ensures waits { fate_after voted_history [] ≡ InDoubt }
+    ensures committed { fate_after voted_history committed_later ≡ Committed }
+    ensures rolled_back { fate_after voted_history rolled_back_later ≡ RolledBack }
     ensures at_work { fate_after worked gone_later ≡ RolledBack }
-    ensures decided { fate_after decided forgotten_later ≡ HeurCommitted }
+    ensures decided { fate_after decided_history forgotten_later ≡ HeurCommitted }
 {}
 
 /// The values of a key in two worked openings, from 100, of which the branch takes 30 in the first: that counts where

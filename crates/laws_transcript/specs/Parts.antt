@@ -19,7 +19,7 @@ use Rattle.xa_scan.specs.Left.{ScanView}
 use Rattle.xa_log.specs.Log.{LogState}
 use Rattle.script_transcript.specs.declared.answer.Answer.{Answer}
 use Rattle.script_transcript.specs.declared.answer.Answer.TheVariants.{Called as shown, Completed}
-use Rattle.script_session.specs.ManagerCalls.{IsListed}
+use Rattle.script_session.specs.ManagerCalls.{ShowsListed}
 use Rattle.laws_transcript.specs.Wants.{wanted_in, refusals, IsRefusal}
 use Rattle.laws_transcript.specs.Wants.Wanted.{code_of, handle_for, completion, listing}
 use Rattle.script_grammar.specs.Steps.{ScriptCalled}
@@ -44,13 +44,13 @@ abbrev pub next_entry : ℕ → List Entry → Op → Code → Entry
 next_entry t before o c = entry (record { thread = t; number = length before; op = o }) c
 
 -- The part with one more entry of thread t at manager m.
-abbrev pub with_entry : ℕ → ℕ → Op → Code → Part → Part
-with_entry t m o c p =
+abbrev pub with_next_entry : ℕ → ℕ → Op → Code → Part → Part
+with_next_entry t m o c p =
     record p { entries = λ n. if n == m then p.entries n ++ next_entry t (p.entries n) o c ∷ [] else p.entries n }
 
 -- The thread's next request to a manager.
-abbrev pub next_request : Part → ℕ → Operation
-next_request p m = record { manager = m; number = length (p.entries m) }
+abbrev pub next_of_part : Part → ℕ → Operation
+next_of_part p m = record { manager = m; number = length (p.entries m) }
 
 -- How many entries a thread's part has, manager by manager: its next request to a manager has that number.
 abbrev pub entered_so_far : Part → ℕ → ℕ
@@ -69,9 +69,9 @@ HasCode settled t o c = slice_get (answers t (journal settled o.manager)) o.numb
 
 -- Thread t asks manager m of an op: it is carried out with this code, or nothing is put to the manager, for this
 -- reason.
-pub data Asked (t m : ℕ) (old : Part) (op : Op) (new : Part) (c : Code) : Type 0 where
-  answered : new ≡ with_entry t m op c old → Asked t m old op new c
-  refused : Contains (refusals false) c → new ≡ old → Asked t m old op new c
+pub data PartAsked (t m : ℕ) (old : Part) (op : Op) (new : Part) (c : Code) : Type 0 where
+  answered : new ≡ with_next_entry t m op c old → PartAsked t m old op new c
+  refused : Contains (refusals false) c → new ≡ old → PartAsked t m old op new c
 
 -- What an xa_recover of thread t with room for n xids does to the thread's part, and what it answers: its manager is
 -- asked whether it answers, and then of one after the other of the branches that the opening found left, from where the
@@ -83,20 +83,20 @@ pub record Lists (t : ℕ) (q : ScriptCalled) (n : ℕ) (a : Answer) (old new : 
   pub after : List XidName
   pub result : Result ℕ Code
   pub room : length before ≡ n
-  pub recovers : RecoversBy (Asked t q.manager) there (check_flags call.Recover q.flags) q.manager old old.scan
+  pub recovers : RecoversBy (PartAsked t q.manager) there (check_flags call.Recover q.flags) q.manager old old.scan
       before asked new.scan after result
   pub stands : new ≡ record asked { scan = new.scan }
-  pub tells : IsListed (told_as result) after a
+  pub tells : ShowsListed (told_as result) after a
 
 -- What a call of thread t does to the thread's part, and what it answers.
 pub data CallTakes (settled : Settling) (t : ℕ) (q : ScriptCalled) (a : Answer) (old new : Part) : Type 0 where
   -- its manager carries its op out, and the call answers the code
   answered : (o : Op) (c : Code) → wanted_in q ≡ code_of o → a ≡ shown (number_of c)
-      → new ≡ with_entry t q.manager o c old → CallTakes settled t q a old new
+      → new ≡ with_next_entry t q.manager o c old → CallTakes settled t q a old new
   -- its manager carries its op out, and the call answers a handle that was free, which now stands for it
   kept : (o : Op) (c : Code) (k : ℕ) → wanted_in q ≡ handle_for o → 1 ≤ k → a ≡ shown (pos k)
       → finmap.get old.handles k ≡ None
-      → new ≡ with_handle k (next_request old q.manager) (with_entry t q.manager o c old)
+      → new ≡ with_handle k (next_of_part old q.manager) (with_next_entry t q.manager o c old)
       → CallTakes settled t q a old new
   -- nothing is done, and the call answers why
   refused : (c : Code) → IsRefusal (wanted_in q) c → a ≡ shown (number_of c) → new ≡ old

@@ -9,8 +9,8 @@ use Rattle.xa_switch.specs.declared.plan.Plan.{Plan}
 use Rattle.xa_switch.specs.declared.plan.ManagerPlan.{ManagerPlan}
 use Rattle.xa_switch.specs.Plans.{Setup, IsWithinLimits, numbers_of}
 use Rattle.xa_switch.specs.OpenedPieces.{AreOfOneOpening}
-use Rattle.script_grammar.specs.Contents.{Content, threads_of, managers_of, handles_of, queue_of, requests_of, accounts_of}
-use Rattle.script_grammar.specs.Contents.{carries_async}
+use Rattle.script_grammar.specs.Contents.{Content, threads_of, managers_of, handles_of, queue_of, requests_of}
+use Rattle.script_grammar.specs.Contents.{declared_accounts, declares_async}
 
 -- The numbers of an opening are the script's.
 pub record AreNumbersOf (s : Content) (opening : ℕ) (n : Again) : Type 0 where
@@ -28,7 +28,7 @@ plan_says p = (p.use_async, p.accounts.items)
 
 -- What a script says of manager m.
 abbrev pub script_says : Content → ℕ → Bool × List (List ℕ × ℕ)
-script_says s m = (carries_async s m, accounts_of m s.keys)
+script_says s m = (declares_async s m, declared_accounts m s.keys)
 
 -- The plan is the script's: the first opening has number 1, and the counts and the managers are those of the script.
 pub record IsPlanOf (s : Content) (p : Plan) : Type 0 where
@@ -41,7 +41,7 @@ pub record IsPlanOf (s : Content) (p : Plan) : Type 0 where
 pub record IsSetupOf (s : Content) (n : ℕ) (tables : ℕ → Tables) (p : Setup) : Type 0 where
   pub numbers : AreNumbersOf s n p.numbers
   pub managers : p.managers ≡ managers_of s
-  pub use_async : p.use_async ≡ map (carries_async s) (range_with_len 1 (managers_of s))
+  pub use_async : p.use_async ≡ map (declares_async s) (range_with_len 1 (managers_of s))
   pub first : p.first ≡ map tables (range_with_len 1 (managers_of s))
   pub limits : IsWithinLimits p.numbers p.managers
 

@@ -13,9 +13,9 @@ use Rattle.xa_log.specs.Log.{LogState, no_records}
 use Rattle.script_grammar.specs.declared.script.Declared.{Declared}
 use Rattle.script_grammar.specs.declared.step.Step.TheVariants as step
 use Rattle.script_grammar.specs.Steps.{ScriptStep}
-use Rattle.script_grammar.specs.Contents.{Content, threads_of, managers_of, AreOfOne}
-use Rattle.script_transcript.specs.declared.answer.Told.{Told}
-use Rattle.script_transcript.specs.declared.answer.Told.TheVariants as told
+use Rattle.script_grammar.specs.Contents.{Content, threads_of, managers_of, NoneReopens}
+use Rattle.script_transcript.specs.declared.answer.TranscriptLine.{TranscriptLine}
+use Rattle.script_transcript.specs.declared.answer.TranscriptLine.TheVariants as told
 use Rattle.laws_transcript.specs.Parts.{Part, new_part}
 use Rattle.laws_transcript.specs.Journals.{AreCarriedOut}
 use Rattle.script_transcript.specs.Values.{opened, AreOfScript, AreValues}
@@ -36,15 +36,15 @@ part_at b t = new_part (b.logs t) (b.scans t)
 
 -- An opening of a run: its lines of the script, what they answered and what was outstanding after them, and what it was
 -- settled to.
-pub record Opening : Type 0 where
+pub record ToldOpening : Type 0 where
   pub steps : List ScriptStep
-  pub answers : List Told
+  pub answers : List TranscriptLine
   pub settled : Settling
 
 -- What the answers tell of an opening that begins so: what was sent, carried out and collected agrees; each manager
 -- goes on from its tables; and of every thread the journals have what its lines put to the managers, with the codes
 -- that they answer.
-pub record TellsOf (s : Content) (b : Beginning) (o : Opening) : Type 0 where
+pub record TellsOf (s : Content) (b : Beginning) (o : ToldOpening) : Type 0 where
   pub agree : IsSettled o.settled
   pub managers : AreOfScript s b.tables o.settled.managers
   pub carried : (t : ℕ) → AreCarriedOut o.steps o.answers o.settled t (part_at b t)
@@ -53,7 +53,7 @@ pub record TellsOf (s : Content) (b : Beginning) (o : Opening) : Type 0 where
 
 -- An opening with the line that reopened it.
 pub record Former : Type 0 where
-  pub opening : Opening
+  pub opening : ToldOpening
   pub line : ℕ
 
 -- What the answers tell of it, and what the next one begins with: the next number; each manager with what the reopening
@@ -72,14 +72,14 @@ abbrev pub beginning : Content → Beginning
 beginning s = record { opening = 1; tables = opened s; logs = λ t. no_records; scans = λ t. no_scan }
 
 -- The lines of these openings, with one that reopens after each but the last, and what they answered.
-abbrev pub steps_over : List Former → Opening → List ScriptStep
+abbrev pub steps_over : List Former → ToldOpening → List ScriptStep
 steps_over before last = flat_map (λ f. f.opening.steps ++ step.Reopen f.line ∷ []) before ++ last.steps
 
-abbrev pub answers_over : List Former → Opening → List Told
+abbrev pub answers_over : List Former → ToldOpening → List TranscriptLine
 answers_over before last = flat_map (λ f. f.opening.answers ++ told.Reopened f.line ∷ []) before ++ last.answers
 
 -- What each was settled to.
-abbrev pub settled_over : List Former → Opening → List Settling
+abbrev pub settled_over : List Former → ToldOpening → List Settling
 settled_over before last = map (λ f. f.opening.settled) before ++ last.settled ∷ []
 
 -- ---- the whole transcript
@@ -87,11 +87,12 @@ settled_over before last = map (λ f. f.opening.settled) before ++ last.settled 
 -- What a transcript of these answers and values tells of the openings of a script, of which the last follows these: its
 -- lines are those of the openings, and so are its answers; it tells of one opening after the other, each of which
 -- begins with what those before it left; and the values are those after all journals.
-pub record Tells (s : Content) (answers : List Told) (values : List Declared) (before : List Former) (last : Opening)
+pub record Tells (s : Content) (answers : List TranscriptLine) (values : List Declared) (before : List Former)
+    (last : ToldOpening)
     : Type 0 where
   pub steps : s.steps ≡ steps_over before last
   pub answers_ : answers ≡ answers_over before last
-  pub ones : All (λ f. AreOfOne f.opening.steps) before × AreOfOne last.steps
+  pub ones : All (λ f. NoneReopens f.opening.steps) before × NoneReopens last.steps
   pub begins : Beginning
   pub former : Chain (Leaves s) (beginning s) before begins
   pub latest : TellsOf s begins last

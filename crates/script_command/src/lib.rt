@@ -4,5 +4,5 @@
 mod mode;
 mod words;
 
-pub use mode::Mode;
+pub use mode::RunMode;
 pub use words::{WordsFault, mode_of};

@@ -3,7 +3,7 @@ ghost use Rattle.std.specs.Prelude.{◌≡◌, ◌≢◌, length, Err, OnOk, IfO
 ghost use Rattle.script_command.specs.declared.words.WordsFault.TheVariants.{NoMemory, Usage};
 ghost use Rattle.script_command.specs.Words.{AreWords, IsMode};
 
-use crate::mode::Mode;
+use crate::mode::RunMode;
 use clap::error::ErrorKind;
 use clap::{Arg, Command};
 use std::alloc::{AllocError, Global};
@@ -54,19 +54,19 @@ fn judge(alloc: Global, words: &[&str]) -> Result<(), WordsFault>
 }
 
 // The mode that the words are the one word of.
-fn named(words: &[&str]) -> Mode
+fn named(words: &[&str]) -> RunMode
     requires { AreWords words.now }
     ensures { IsMode words.now result }
 {
     if words[0] == "threads" {
-        Mode::Threads
+        RunMode::Threads
     } else {
-        Mode::Turns
+        RunMode::Turns
     }
 }
 
 /// The mode that the words name: they have to be one word, `turns` or `threads`.
-pub fn mode_of(alloc: Global, words: &[&str]) -> Result<Mode, WordsFault>
+pub fn mode_of(alloc: Global, words: &[&str]) -> Result<RunMode, WordsFault>
     ensures ok { IfOk result (IsMode words.now) }
     ensures usage { IsErrOf result Usage → ¬ AreWords words.now }
     ensures several { length words.now ≢ 1 → result ≡ Err Usage }

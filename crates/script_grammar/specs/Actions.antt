@@ -13,8 +13,8 @@ use Rattle.script_grammar.specs.declared.step.Verb.{Verb}
 use Rattle.script_grammar.specs.declared.step.Verb.TheVariants as verb
 use Rattle.script_grammar.specs.declared.step.TheConstants.{MOST_HANDLE, MOST_COUNT}
 use Rattle.script_grammar.specs.declared.commit.TheConstants.{MOST_MANAGER}
-use Rattle.script_grammar.specs.Fields.{◌>>=◌, Word, word_at, end_of, number_in, number_at, key_at, xid_at, delta_at}
-use Rattle.script_grammar.specs.Fields.{flags_onto}
+use Rattle.script_grammar.specs.Fields.{◌>>=◌, Word, word_at, end_of, number_within, number_at, key_at, xid_at}
+use Rattle.script_grammar.specs.Fields.{delta_at, flags_onto}
 use Rattle.script_grammar.specs.Contents.{Content, threads_of, managers_of}
 use Rattle.script_grammar.specs.Steps.{ScriptCall, ScriptCalled, ScriptAction, ScriptTask}
 use Rattle.script_grammar.specs.Commits.{commit_of}
@@ -82,7 +82,7 @@ action_of s w ws =
 -- T VERB .., on the line of this number; T is one of the threads.
 unfoldable pub task_on : Content → ℕ → Word → List Word → Result ScriptTask Reason
 task_on s line first ws = do
-  t ← number_in 1 (threads_of s) first
+  t ← number_within 1 (threads_of s) first
   w ← word_at ws
   a ← action_of s w.0 w.1
   Ok (record { line = line; thread = t; action = a })

@@ -12,7 +12,7 @@ use Rattle.xa_words.specs.ManagerSet.{is_in, set_of}
 use Rattle.script_grammar.specs.declared.step.CommitAll.{CommitAll}
 use Rattle.script_grammar.specs.declared.named.Named.{Named}
 use Rattle.script_grammar.specs.declared.commit.TheConstants.{MOST_MANAGER, MOST_ANSWERS}
-use Rattle.script_grammar.specs.Fields.{◌>>=◌, Word, word_at, end_of, number_in, number_at, tran_at}
+use Rattle.script_grammar.specs.Fields.{◌>>=◌, Word, word_at, end_of, number_within, number_at, tran_at}
 use Rattle.script_grammar.specs.Contents.{Content, managers_of}
 
 -- ---- where the coordinator dies
@@ -21,7 +21,7 @@ use Rattle.script_grammar.specs.Contents.{Content, managers_of}
 unfoldable pub answers_of : List Word → Result (Option ℕ) Reason
 answers_of [] = Ok None
 answers_of (w ∷ ws) = do
-  k ← number_in 0 MOST_ANSWERS w
+  k ← number_within 0 MOST_ANSWERS w
   last ← end_of ws
   Ok (Some k)
 
@@ -57,7 +57,7 @@ managers_to_end [] = Ok ([], None)
 managers_to_end (w ∷ ws) =
     if bytes_eq w (codes "dies") then (death_at ws >>= λ death. Ok ([], Some death))
     else do
-      m ← number_in 0 MOST_MANAGER w
+      m ← number_within 0 MOST_MANAGER w
       rest ← managers_to_end ws
       Ok (m ∷ rest.0, rest.1)
 

@@ -58,12 +58,12 @@ abbrev pub requests_of : Content → ℕ
 requests_of s = unwrap_or s.settings.requests 256
 
 -- What manager m is opened with: its keys and their values.
-abbrev pub accounts_of : ℕ → List Declared → List (List ℕ × ℕ)
-accounts_of m keys = map (λ d. (d.key, d.value)) (filter (λ d. d.manager == m) keys)
+abbrev pub declared_accounts : ℕ → List Declared → List (List ℕ × ℕ)
+declared_accounts m keys = map (λ d. (d.key, d.value)) (filter (λ d. d.manager == m) keys)
 
 -- Manager m takes asynchronous calls, unless a line says that it doesn't.
-abbrev pub carries_async : Content → ℕ → Bool
-carries_async s m = not (list_any (λ n. n == m) s.syncs)
+abbrev pub declares_async : Content → ℕ → Bool
+declares_async s m = not (list_any (λ n. n == m) s.syncs)
 
 -- Which append of thread t's log fails, if one does.
 abbrev pub failing_append : Content → ℕ → Option ℕ
@@ -90,8 +90,8 @@ is_reopen (step.Turn line m) = false
 is_reopen (step.Reopen line) = true
 
 -- These lines are of one opening.
-abbrev pub AreOfOne : List ScriptStep → Type 0
-AreOfOne steps = list_any is_reopen steps ≡ false
+abbrev pub NoneReopens : List ScriptStep → Type 0
+NoneReopens steps = list_any is_reopen steps ≡ false
 
 -- ---- what a line adds to it
 
@@ -119,8 +119,8 @@ abbrev pub with_count : Count → ℕ → Content → Content
 with_count count n s = record s { settings = with_setting count n s.settings }
 
 -- One more key is declared.
-abbrev pub with_key : Declared → Content → Content
-with_key declared s = record s { keys = s.keys ++ declared ∷ [] }
+abbrev pub with_declared : Declared → Content → Content
+with_declared declared s = record s { keys = s.keys ++ declared ∷ [] }
 
 -- One more manager takes no asynchronous calls.
 abbrev pub with_sync : ℕ → Content → Content
@@ -183,7 +183,7 @@ pub record IsScript (s : Content) : Type 0 where
   pub queue : IsUpTo MOST_QUEUED (queue_of s)
   pub requests : IsUpTo MOST_REQUESTS (requests_of s)
   pub of_managers : All (IsOfManager s) s.keys
-  pub accounts : (m : ℕ) → are_accounts (accounts_of m s.keys) ≡ true
+  pub accounts : (m : ℕ) → are_accounts (declared_accounts m s.keys) ≡ true
   pub of_logs : (t : ℕ) → IsOfLog s t
   pub of_unknown : (t : ℕ) → IsOfUnknown s t
   pub of_steps : All (IsOfScript s) s.steps

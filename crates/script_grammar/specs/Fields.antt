@@ -24,9 +24,9 @@ abbrev pub ◌>>=◌ : {A B E : Type 0} → Result A E → (A → Result B E) �
 (Err why) >>= f = Err why
 
 -- What a function took off the words, and the words that it left, are what reading gives.
-abbrev pub Takes : {X : Type 0} → Result X Reason → List (List ℕ) → Result (X × List (List ℕ)) Reason → Type 0
-Takes (Ok x) left read = read ≡ Ok (x, left)
-Takes (Err why) left read = read ≡ Err why
+abbrev pub TakesWords : {X : Type 0} → Result X Reason → List (List ℕ) → Result (X × List (List ℕ)) Reason → Type 0
+TakesWords (Ok x) left read = read ≡ Ok (x, left)
+TakesWords (Err why) left read = read ≡ Err why
 
 -- A word is bytes without a space.
 abbrev pub Word : Type 0
@@ -60,18 +60,18 @@ abbrev pub decimal_value : Word → ℕ
 decimal_value w = fold (λ n b. 10 * n + (b - 48)) 0 w
 
 -- A number is 1 to 18 digits; leading zeros are allowed.
-abbrev pub number_of : Word → Option ℕ
-number_of w = if nat_le 1 (length w) && nat_le (length w) 18 && all_digits w then Some (decimal_value w) else None
+abbrev pub number_of_word : Word → Option ℕ
+number_of_word w = if nat_le 1 (length w) && nat_le (length w) 18 && all_digits w then Some (decimal_value w) else None
 
 -- The number that a word is, from low to high.
-abbrev pub number_in : ℕ → ℕ → Word → Result ℕ Reason
-number_in low high w = do
-  n ← ok_or (number_of w) BadNumber
+abbrev pub number_within : ℕ → ℕ → Word → Result ℕ Reason
+number_within low high w = do
+  n ← ok_or (number_of_word w) BadNumber
   if nat_le low n && nat_le n high then Ok n else Err OutOfRange
 
 -- The next word, as a number from low to high.
 unfoldable pub number_at : ℕ → ℕ → List Word → Result (ℕ × List Word) Reason
-number_at low high ws = field (number_in low high) ws
+number_at low high ws = field (number_within low high) ws
 
 -- ---- names
 
@@ -88,15 +88,15 @@ unfoldable pub key_at : List Word → Result (List ℕ × List Word) Reason
 key_at ws = field (λ w. ok_or (key_of w) BadKey) ws
 
 -- An xid is G.B, two names; it stands for format 1, gtrid G, bqual B.
-abbrev pub xid_of : Word → Option XidName
-xid_of w =
+abbrev pub xid_of_word : Word → Option XidName
+xid_of_word w =
     let g = before_first (λ b. b == dot) w in
     let b = after_first (λ b. b == dot) w in
     if is_name g && is_name b then Some (record { format = pos 1; gtrid = g; bqual = b }) else None
 
 -- The next word, as an xid.
 unfoldable pub xid_at : List Word → Result (XidName × List Word) Reason
-xid_at ws = field (λ w. ok_or (xid_of w) BadXid) ws
+xid_at ws = field (λ w. ok_or (xid_of_word w) BadXid) ws
 
 -- A name stands for the global transaction of format 1 that has it as gtrid.
 abbrev pub tran_named : Word → Option TranName
@@ -112,8 +112,8 @@ tran_at ws = field (λ w. ok_or (tran_named w) BadXid) ws
 abbrev pub signed_number_of : Word → Option ℤ
 signed_number_of [] = None
 signed_number_of (b ∷ bs) =
-    if b == minus then option_map (λ n. neg_ℤ (pos n)) (number_of bs)
-    else option_map pos (number_of (b ∷ bs))
+    if b == minus then option_map (λ n. neg_ℤ (pos n)) (number_of_word bs)
+    else option_map pos (number_of_word (b ∷ bs))
 
 -- The delta that a word stands for.
 abbrev pub delta_in : Word → Result ℤ Reason

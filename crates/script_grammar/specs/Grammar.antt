@@ -17,8 +17,8 @@ use Rattle.script_grammar.specs.Items.{Item}
 use Rattle.script_grammar.specs.Items as item
 use Rattle.script_grammar.specs.Text.{hash, lines_of, words_of, without_return, is_script_byte}
 use Rattle.script_grammar.specs.Fields.{◌>>=◌, Word, all_digits}
-use Rattle.script_grammar.specs.Contents.{Content, nothing, with_count, with_key, with_sync, with_failing, with_unknown}
-use Rattle.script_grammar.specs.Contents.{with_step}
+use Rattle.script_grammar.specs.Contents.{Content, nothing, with_count, with_declared, with_sync, with_failing}
+use Rattle.script_grammar.specs.Contents.{with_unknown, with_step}
 use Rattle.script_grammar.specs.Settings.{setting_of, sync_of, logfail_of, logunknown_of, declared_of}
 use Rattle.script_grammar.specs.Actions.{task_on, turn_of, reopen_of}
 
@@ -100,20 +100,20 @@ line_of mode s n line =
     else item_of mode s n (words_of line)
 
 -- What a line says is added to the script.
-abbrev pub with_item : Item → Content → Content
-with_item item.Nothing s = s
-with_item (item.Count count n) s = with_count count n s
-with_item (item.Sync m) s = with_sync m s
-with_item (item.LogFail t k) s = with_failing t k s
-with_item (item.LogUnknown t u) s = with_unknown t u s
-with_item (item.Key d) s = with_key d s
-with_item (item.Step p) s = with_step p s
+abbrev pub with_line : Item → Content → Content
+with_line item.Nothing s = s
+with_line (item.Count count n) s = with_count count n s
+with_line (item.Sync m) s = with_sync m s
+with_line (item.LogFail t k) s = with_failing t k s
+with_line (item.LogUnknown t u) s = with_unknown t u s
+with_line (item.Key d) s = with_declared d s
+with_line (item.Step p) s = with_step p s
 
 -- The script with line n, whose carriage return is dropped.
 unfoldable pub after_line : Bool → Content → ℕ → List ℕ → Result Content Reason
 after_line mode s n line = do
   i ← line_of mode s n (without_return line)
-  Ok (with_item i s)
+  Ok (with_line i s)
 
 -- ---- the script
 

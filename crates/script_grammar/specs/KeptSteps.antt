@@ -6,16 +6,16 @@ use Rattle.xa_words.specs.Xid.{XidName}
 use Rattle.xa_words.specs.Tran.{TranName}
 use Rattle.script_grammar.specs.declared.step.ManagerCall.TheVariants as manager_call
 use Rattle.script_grammar.specs.declared.step.Action.TheVariants as action
+use Rattle.script_grammar.specs.declared.step.Step.{Step}
 use Rattle.script_grammar.specs.declared.step.Step.TheVariants as step
 use Rattle.script_grammar.specs.declared.steps.NamePlace.{NamePlace}
+use Rattle.script_grammar.specs.declared.steps.GtridPlace.{GtridPlace}
 use Rattle.script_grammar.specs.declared.steps.KeyPlace.{KeyPlace}
-use Rattle.script_grammar.specs.declared.steps.Kept.{Kept}
-use Rattle.script_grammar.specs.declared.steps.Kept.TheVariants as kept
-use Rattle.script_grammar.specs.Steps.{ScriptCall, ScriptAction, ScriptStep, CallHas, call_with}
+use Rattle.script_grammar.specs.Steps.{ScriptCall, ScriptAction, ScriptStep, StepHas, step_with}
 
--- a step as it is kept
+-- a step as it is kept: it says where its name and its key stand
 abbrev pub KeptStep : Type 0
-KeptStep = Kept NamePlace KeyPlace
+KeptStep = Step NamePlace GtridPlace KeyPlace
 
 -- so many bytes from a place on
 abbrev pub bytes_at : List ℕ → ℕ → ℕ → List ℕ
@@ -33,13 +33,13 @@ name_at bytes p = record {
   bqual = drop (p.gtrid + 1) (word_at bytes p);
 }
 
--- the name of a global transaction whose gtrid stands at a place, and has so many bytes
-abbrev pub gtrid_at : List ℕ → ℕ → ℕ → TranName
-gtrid_at bytes at len = record { format = pos 1; gtrid = bytes_at bytes at len }
+-- the name of a global transaction whose gtrid stands at a place
+abbrev pub gtrid_at : List ℕ → GtridPlace → TranName
+gtrid_at bytes p = record { format = pos 1; gtrid = bytes_at bytes p.at p.len }
 
 -- the key that stands at a place
-abbrev pub key_at : List (List ℕ) → KeyPlace → List ℕ
-key_at keys p = get_or keys p.at []
+abbrev pub key_at_place : List (List ℕ) → KeyPlace → List ℕ
+key_at_place keys p = get_or keys p.at []
 
 -- a branch's name stands there: both parts have 1 to 64 bytes
 pub record IsName (bytes : List ℕ) (p : NamePlace) : Type 0 where
@@ -48,9 +48,9 @@ pub record IsName (bytes : List ℕ) (p : NamePlace) : Type 0 where
   pub bqual : IsUpTo 64 p.bqual
 
 -- a gtrid stands there, of 1 to 64 bytes
-pub record IsGtrid (bytes : List ℕ) (at len : ℕ) : Type 0 where
-  pub within : at + len ≤ length bytes
-  pub long : IsUpTo 64 len
+pub record IsGtrid (bytes : List ℕ) (p : GtridPlace) : Type 0 where
+  pub within : p.at + p.len ≤ length bytes
+  pub long : IsUpTo 64 p.len
 
 -- a key stands there
 abbrev pub IsKey : List (List ℕ) → KeyPlace → Type 0
@@ -58,9 +58,7 @@ IsKey keys p = p.at < length keys
 
 -- names and keys stand where the step says
 abbrev pub IsNamed : List ℕ → List (List ℕ) → KeptStep → Type 0
-IsNamed bytes keys (kept.Call t line m flags c) = CallHas (IsName bytes) (IsKey keys) c
-IsNamed bytes keys (kept.CommitAll t len at line managers death) = IsGtrid bytes at len
-IsNamed bytes keys other = Unit {0}
+IsNamed bytes keys = StepHas (IsName bytes) (IsGtrid bytes) (IsKey keys)
 
 -- the step that a thread's action is
 abbrev pub task_step : ℕ → ℕ → ScriptAction → ScriptStep
@@ -68,27 +66,7 @@ task_step line t a = step.Task (record { line = line; thread = t; action = a })
 
 -- the step with the names and the keys that stand there
 abbrev pub step_at : List ℕ → List (List ℕ) → KeptStep → ScriptStep
-step_at bytes keys (kept.Call t line m flags c) =
-    task_step line t
-    (action.Call (record { manager = m; flags = flags; call = call_with (name_at bytes) (key_at keys) c }))
-step_at bytes keys (kept.CommitAll t len at line managers death) =
-    task_step line t
-    (action.CommitAll (record { tran = gtrid_at bytes at len; managers = managers; death = death }))
-step_at bytes keys (kept.Resolve t line) = task_step line t action.Resolve
-step_at bytes keys (kept.Turn line m) = step.Turn line m
-step_at bytes keys (kept.Reopen line) = step.Reopen line
-
--- it is a task of thread t
-abbrev pub is_kept_of : {X K : Type 0} → ℕ → Kept X K → Bool
-is_kept_of t (kept.Call u line m flags c) = u == t
-is_kept_of t (kept.CommitAll u len at line managers death) = u == t
-is_kept_of t (kept.Resolve u line) = u == t
-is_kept_of t other = false
-
--- it opens the managers again
-abbrev pub is_kept_reopen : {X K : Type 0} → Kept X K → Bool
-is_kept_reopen (kept.Reopen line) = true
-is_kept_reopen other = false
+step_at bytes keys = step_with (name_at bytes) (gtrid_at bytes) (key_at_place keys)
 
 -- ---- a step that comes
 
@@ -110,28 +88,17 @@ keys_in other = []
 abbrev pub place_from : ℕ → XidName → NamePlace
 place_from at x = record { at = at; gtrid = length x.gtrid; bqual = length x.bqual }
 
+-- where a gtrid stands whose bytes come from a place on
+abbrev pub gtrid_place_from : ℕ → TranName → GtridPlace
+gtrid_place_from at t = record { at = at; len = length t.gtrid }
+
 -- where a key stands that comes at a place
 abbrev pub key_place_from : ℕ → List ℕ → KeyPlace
 key_place_from at k = record { at = at }
 
--- a task is kept with its thread's number in a byte
-abbrev pub HasSmallThread : ScriptStep → Type 0
-HasSmallThread (step.Task p) = p.thread ≤ 255
-HasSmallThread (step.Turn line m) = Unit {0}
-HasSmallThread (step.Reopen line) = Unit {0}
-
--- the action of thread t on this line as it is kept, where its name's bytes come from a place on and its key at a place
-abbrev pub action_from : ℕ → ℕ → ℕ → ℕ → ScriptAction → KeptStep
-action_from at key line t (action.Call c) =
-    kept.Call t line c.manager c.flags (call_with (place_from at) (key_place_from key) c.call)
-action_from at key line t (action.CommitAll c) = kept.CommitAll t (length c.tran.gtrid) at line c.managers c.death
-action_from at key line t action.Resolve = kept.Resolve t line
-
--- so a step
+-- the step as it is kept, where its name's bytes come from a place on and its key at a place
 abbrev pub kept_from : ℕ → ℕ → ScriptStep → KeptStep
-kept_from at key (step.Task p) = action_from at key p.line p.thread p.action
-kept_from at key (step.Turn line m) = kept.Turn line m
-kept_from at key (step.Reopen line) = kept.Reopen line
+kept_from at key = step_with (place_from at) (gtrid_place_from at) (key_place_from key)
 
 -- ---- all steps
 

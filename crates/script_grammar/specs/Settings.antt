@@ -10,8 +10,8 @@ use Rattle.script_grammar.specs.declared.setting.TheConstants.{MOST_APPENDS}
 use Rattle.xa_base.specs.declared.limits.TheConstants.{MOST_REQUESTS, MOST_THREADS, MOST_VALUE}
 use Rattle.xa_words.specs.Key.{key_eq}
 use Rattle.script_grammar.specs.declared.fault.Reason.{Reason}
-use Rattle.script_grammar.specs.declared.fault.Reason.TheVariants.{SettingAfterAction, SettingTwice, KeyTwice, TooManyKeys}
-use Rattle.script_grammar.specs.declared.fault.Reason.TheVariants.{UnknownWord}
+use Rattle.script_grammar.specs.declared.fault.Reason.TheVariants.{SettingAfterAction, SettingTwice, KeyTwice}
+use Rattle.script_grammar.specs.declared.fault.Reason.TheVariants.{TooManyKeys, UnknownWord}
 use Rattle.script_grammar.specs.declared.script.Count.{Count}
 use Rattle.script_grammar.specs.declared.script.Count.TheVariants.{Threads, Managers, Handles, Queue, Requests}
 use Rattle.script_grammar.specs.declared.script.Settings.{Settings}

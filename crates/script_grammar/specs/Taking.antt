@@ -10,7 +10,7 @@ use Rattle.script_grammar.specs.Steps.{ScriptAction, ScriptTask}
 use Rattle.script_grammar.specs.Contents.{Content}
 use Rattle.script_grammar.specs.Items.{Item}
 use Rattle.script_grammar.specs.Items as item
-use Rattle.script_grammar.specs.Grammar.{with_item}
+use Rattle.script_grammar.specs.Grammar.{with_line}
 
 -- Where there is memory, the new script is what was read; the fault of a line is the one that was found.
 abbrev pub Gives : Result (Unit {0}) LineFault → Result Content Reason → Content → Type 0
@@ -20,7 +20,7 @@ Gives (Err fault.NoMemory) read new = Unit {0}
 
 -- The script with what a line says.
 abbrev pub with_item_in : Content → Result Item Reason → Result Content Reason
-with_item_in s said = said >>= λ i. Ok (with_item i s)
+with_item_in s said = said >>= λ i. Ok (with_line i s)
 
 -- A line of a thread says that there is a task.
 abbrev pub task_item : Result ScriptTask Reason → Result Item Reason

@@ -18,19 +18,19 @@ const MOST_ANSWERS: u64 = 7;
 
 // How many answers of a round are collected, where a word says so.
 #[tactic(auto, unfolding(crate::specs::Commits::answers_of))]
-fn answers_of(words: &mut Words) -> Result<Option<u32>, Reason>
+fn answers_of(words: &mut Words) -> Result<Option<u8>, Reason>
     ensures { result ≡ answers_of words.old }
 {
     let Some(word) = words.next() else {
         return Ok(None);
     };
-    let answers = number_in(0, MOST_ANSWERS, word)? as u32;
+    let answers = number_in(0, MOST_ANSWERS, word)? as u8;
     words.end()?;
     Ok(Some(answers))
 }
 
 // Once all have voted, or when so many votes are collected.
-fn once_prepared(answers: Option<u32>) -> Death
+fn once_prepared(answers: Option<u8>) -> Death
     ensures { result ≡ once_prepared answers }
 {
     match answers {
@@ -40,7 +40,7 @@ fn once_prepared(answers: Option<u32>) -> Death
 }
 
 // Once all are told, or when so many of them have answered.
-fn once_told(answers: Option<u32>) -> Death
+fn once_told(answers: Option<u8>) -> Death
     ensures { result ≡ once_told answers }
 {
     match answers {

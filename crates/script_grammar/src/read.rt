@@ -1,8 +1,9 @@
 //! Reading a script to its end, and what each line of it says.
 ghost use Rattle.std.specs.Prelude.{◌≡◌, ◌≤◌, true, length, IfOk, IfSome, OnOk, IfErr, Ok};
 ghost use Rattle.script_grammar.specs.Text.{HasNoEnd, is_script_byte, without_return};
-ghost use Rattle.script_grammar.specs.Contents.{AreOfOne};
-ghost use Rattle.script_grammar.specs.Grammar.{Reads, script_of, head_of, item_by, item_of, line_of, after_line, FailsAt};
+ghost use Rattle.script_grammar.specs.Contents.{NoneReopens};
+ghost use Rattle.script_grammar.specs.Grammar.{Reads, script_of, head_of, item_by, item_of, line_of, after_line};
+ghost use Rattle.script_grammar.specs.Grammar.{FailsAt};
 ghost use Rattle.std.specs.List.{list_all};
 ghost use Rattle.script_grammar.specs.Taking.{Gives, with_item_in};
 
@@ -252,12 +253,12 @@ impl Reading {
     ghost use Rattle.std.specs.Prelude.{◌≡◌, true, [], ◌∷◌, ◌++◌, OnOk, IfOk, IfErr, IfSome};
     ghost use Rattle.script_grammar.specs.Text.{line_feed, HasNoEnd};
     ghost use Rattle.script_grammar.specs.Grammar.{Reads, Fails};
-    ghost use Rattle.script_grammar.specs.Contents.{AreOfOne};
-    ghost use Rattle.script_grammar.specs.Reading.{goes_on, IsFresh, HasTaken, StaysOne, FailsOn};
+    ghost use Rattle.script_grammar.specs.Contents.{NoneReopens};
+    ghost use Rattle.script_grammar.specs.Reading.{goes_on, IsFreshReading, HasTakenBytes, StaysOne, FailsOn};
 
     fn new(alloc: Global, threads_mode: bool) -> Result<Reading, AllocError>
-        ensures fresh { IfOk result (IsFresh threads_mode) }
-        ensures one { IfOk result (λ r. (r.threads_mode ≡ threads_mode) × AreOfOne r.script.steps) }
+        ensures fresh { IfOk result (IsFreshReading threads_mode) }
+        ensures one { IfOk result (λ r. (r.threads_mode ≡ threads_mode) × NoneReopens r.script.steps) }
     {
         Ok(Reading {
             threads_mode,
@@ -271,7 +272,7 @@ impl Reading {
     #[tactic(auto, using(crate::proofs::Lines::too_many, crate::proofs::Lines::too_long))]
     fn take_part(&mut self, part: &[u8]) -> Result<(), ScriptFault>
         requires { HasNoEnd part.now }
-        ensures ok { OnOk result (HasTaken self.old self.new part.now) }
+        ensures ok { OnOk result (HasTakenBytes self.old self.new part.now) }
         ensures err { IfErr result (FailsOn self.old part.now) }
         ensures one { OnOk result (StaysOne self.old self.new) }
     {
@@ -292,7 +293,7 @@ impl Reading {
     // Takes the line feed after a line that came in parts.
     #[tactic(auto, using(crate::proofs::Scripts::line_rules))]
     fn end_line(&mut self) -> Result<(), ScriptFault>
-        ensures ok { OnOk result (HasTaken self.old self.new (line_feed ∷ [])) }
+        ensures ok { OnOk result (HasTakenBytes self.old self.new (line_feed ∷ [])) }
         ensures err { IfErr result (FailsOn self.old (line_feed ∷ [])) }
         ensures one { OnOk result (StaysOne self.old self.new) }
     {
@@ -305,7 +306,7 @@ impl Reading {
     // Takes the rest of a line, and the line feed after it.
     fn take_line(&mut self, rest: &[u8]) -> Result<(), ScriptFault>
         requires { HasNoEnd rest.now }
-        ensures ok { OnOk result (HasTaken self.old self.new (rest.now ++ line_feed ∷ [])) }
+        ensures ok { OnOk result (HasTakenBytes self.old self.new (rest.now ++ line_feed ∷ [])) }
         ensures err { IfErr result (FailsOn self.old (rest.now ++ line_feed ∷ [])) }
         ensures one { OnOk result (StaysOne self.old self.new) }
     {
@@ -320,7 +321,7 @@ impl Reading {
     }
 
     fn take_chunk(&mut self, chunk: &[u8]) -> Result<(), ScriptFault>
-        ensures ok { OnOk result (HasTaken self.old self.new chunk.now) }
+        ensures ok { OnOk result (HasTakenBytes self.old self.new chunk.now) }
         ensures err { IfErr result (FailsOn self.old chunk.now) }
         ensures one { OnOk result (StaysOne self.old self.new) }
     {
@@ -355,7 +356,8 @@ impl Reading {
     // Takes the last line, which may lack its line feed.
     fn finish(self) -> Result<Script, ScriptFault>
         ensures reads { Reads result (goes_on self []) }
-        ensures one { self.threads_mode ≡ true → AreOfOne self.script.steps → IfOk result (λ s. AreOfOne s.steps) }
+        ensures one { self.threads_mode ≡ true → NoneReopens self.script.steps
+            → IfOk result (λ s. NoneReopens s.steps) }
     {
         let Reading {
             threads_mode,
@@ -385,7 +387,7 @@ pub fn read_script<R: Read>(
     threads_mode: bool,
 ) -> Result<Script, ScriptFault>
     ensures reads { IfSome (R.remaining reader.old) (λ bytes. Reads result (script_of threads_mode bytes)) }
-    ensures one { threads_mode ≡ true → IfOk result (λ s. AreOfOne s.steps) }
+    ensures one { threads_mode ≡ true → IfOk result (λ s. NoneReopens s.steps) }
 {
     let mut reading = Reading::new(alloc, threads_mode)?;
     reading.take_all(reader)?;

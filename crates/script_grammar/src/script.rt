@@ -112,13 +112,12 @@ impl Model for Script {
 impl Script {
     ghost use Rattle.xa_words.specs.Accounts.{are_accounts};
     ghost use Rattle.std.specs.List.{list_any};
-    ghost use Rattle.script_grammar.specs.Contents.{is_reopen, tasks_of, accounts_of, IsOfManager, IsOfScript, IsScript};
-    ghost use Rattle.script_grammar.specs.Contents.{threads_of, managers_of, handles_of, queue_of, requests_of};
-    ghost use Rattle.script_grammar.specs.Contents.{carries_async, failing_append, nothing, with_count, with_key};
-    ghost use Rattle.script_grammar.specs.Contents.{with_sync};
-    ghost use Rattle.script_grammar.specs.Contents.{unknown_append, with_failing, with_unknown, with_step};
-    ghost use Rattle.script_grammar.specs.Contents.{HasFewXids};
-    ghost use Rattle.script_grammar.specs.KeptSteps.{task_step, HasSmallThread};
+    ghost use Rattle.script_grammar.specs.Contents.{is_reopen, tasks_of, declared_accounts, IsOfManager, IsOfScript};
+    ghost use Rattle.script_grammar.specs.Contents.{IsScript, threads_of, managers_of, handles_of, queue_of};
+    ghost use Rattle.script_grammar.specs.Contents.{requests_of, declares_async, failing_append, nothing, with_count};
+    ghost use Rattle.script_grammar.specs.Contents.{with_declared, with_sync, unknown_append, with_failing};
+    ghost use Rattle.script_grammar.specs.Contents.{with_unknown, with_step, HasFewXids};
+    ghost use Rattle.script_grammar.specs.KeptSteps.{task_step};
 
     pub(crate) fn new(alloc: Global) -> Result<Script, AllocError>
         ensures { IfOk result (λ s. s ≡ nothing) }
@@ -190,7 +189,7 @@ impl Script {
     pub fn keys(&self) -> &[Declared]
         ensures keys { result.now ≡ self.now.keys }
         ensures managers { All (IsOfManager self.now) result.now }
-        ensures accounts { (m : ℕ) → are_accounts (accounts_of m result.now) ≡ true }
+        ensures accounts { (m : ℕ) → are_accounts (declared_accounts m result.now) ≡ true }
     {
         self.keys.all()
     }
@@ -203,7 +202,7 @@ impl Script {
 
     /// Whether the manager takes asynchronous calls: whether its switch carries `TMUSEASYNC`.
     pub fn carries_async(&self, manager: u32) -> bool
-        ensures { result ≡ carries_async self.now manager }
+        ensures { result ≡ declares_async self.now manager }
     {
         !self.syncs.contains(&manager)
     }
@@ -294,8 +293,8 @@ impl Script {
     }
 
     pub(crate) fn add_key(&mut self, declared: Declared) -> Result<(), AllocError>
-        requires { IsScript self.old → IsScript (with_key declared self.old) }
-        ensures { OnOk result (self.new ≡ with_key declared self.old) }
+        requires { IsScript self.old → IsScript (with_declared declared self.old) }
+        ensures { OnOk result (self.new ≡ with_declared declared self.old) }
     {
         self.keys.add(declared)
     }
@@ -332,7 +331,6 @@ impl Script {
         action: Action<Name, Gtrid>,
     ) -> Result<(), AllocError>
         requires thread { IsUpTo (threads_of self.old) thread }
-        requires small { thread ≤ 255 }
         requires few { HasFewXids action }
         ensures { OnOk result (self.new ≡ with_step (task_step line thread action.entry) self.old) }
     {
@@ -344,8 +342,7 @@ impl Script {
     }
 
     pub(crate) fn add_step(&mut self, step: &Step<Name, Gtrid>) -> Result<(), AllocError>
-        requires script { IsScript self.old → IsScript (with_step step.now self.old) }
-        requires thread { HasSmallThread step.now }
+        requires { IsScript self.old → IsScript (with_step step.now self.old) }
         ensures { OnOk result (self.new ≡ with_step step.now self.old) }
     {
         Arc::make_mut(&mut self.steps)?.push(step)

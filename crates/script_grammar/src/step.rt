@@ -9,7 +9,7 @@ ghost use Rattle.script_grammar.specs.Contents.{is_reopen, AsksForFew, threads_o
 ghost use Rattle.script_grammar.specs.OwnTasks.{is_own};
 ghost use Rattle.script_grammar.specs.Steps.{CallHas, ActionHas, StepHas, Computes, call_with, action_with, step_with};
 ghost use Rattle.xa_base.specs.Lists.{IsUpTo};
-ghost use Rattle.script_grammar.specs.Fields.{Takes};
+ghost use Rattle.script_grammar.specs.Fields.{TakesWords};
 ghost use Rattle.script_grammar.specs.Actions.{verb_of, call_at, call_of, action_of, task_on, turn_of, reopen_of};
 ghost use Rattle.script_grammar.specs.Taking.{Gives, with_item_in, task_item, as_task};
 
@@ -210,6 +210,17 @@ impl<X, G, K> Step<X, G, K> {
     }
 }
 
+// It is copied part by part. A derived clone goes by its variants.
+impl<X: Copy, G: Copy, K: Copy> Clone for Step<X, G, K> {
+    ghost is_clone = { λ a b. b ≡ a };
+
+    ghost is_infallible = { λ _. ⊤ };
+
+    fn clone(&self) -> Result<Step<X, G, K>, AllocError> {
+        Ok(self.map(|name| *name, |tran| *tran, |key| *key))
+    }
+}
+
 // A handle is a positive 32-bit number with a sign, or 0, which is none.
 const MOST_HANDLE: u64 = i32::MAX as u64;
 
@@ -262,7 +273,7 @@ fn verb_of(word: &[u8]) -> Option<Verb>
 // The words between the manager and the flags.
 #[tactic(auto, unfolding(crate::specs::Actions::call_at))]
 fn call_at<'a>(verb: Verb, words: &mut Words<'a>) -> Result<ManagerCall<Name<'a>>, Reason>
-    ensures takes { Takes result words.new (call_at verb words.old) }
+    ensures takes { TakesWords result words.new (call_at verb words.old) }
     ensures few { IfOk result AsksForFew }
 {
     match verb {
@@ -306,7 +317,6 @@ fn take_action(
     words: &mut Words,
 ) -> Result<(), LineFault>
     requires thread { IsUpTo (threads_of script.old) thread }
-    requires small { thread ≤ 255 }
     ensures { Gives result
         (with_item_in script.old (task_item (as_task line thread (action_of script.old verb.now words.old))))
         script.new }

@@ -6,17 +6,17 @@ ghost use Rattle.std.specs.List.{list_any};
 ghost use Rattle.script_grammar.specs.Contents.{is_reopen};
 ghost use Rattle.script_grammar.specs.OwnTasks.{own_steps, steps_at, tasks_in, IsTask};
 ghost use Rattle.script_grammar.specs.Spelling.{Spells, IsShort};
-ghost use Rattle.script_grammar.specs.KeptSteps.{name_at, gtrid_at, key_at, IsName, IsGtrid, IsKey, IsNamed, step_at};
-ghost use Rattle.script_grammar.specs.KeptSteps.{keys_in, kept_from, HasSmallThread, is_kept_of, is_kept_reopen};
+ghost use Rattle.script_grammar.specs.KeptSteps.{name_at, gtrid_at, key_at_place, IsName, IsGtrid, IsKey, IsNamed};
+ghost use Rattle.script_grammar.specs.KeptSteps.{step_at, keys_in, kept_from};
 ghost use Rattle.std.specs.Arc.{arc_value};
 
 use crate::name::{Gtrid, Name};
-use crate::step::{Action, Called, CommitAll, ManagerCall, Step, Task};
+use crate::step::{Action, ManagerCall, Step, Task};
 use std::alloc::{AllocError, Global};
 use std::clone::Clone;
 use std::marker::Model;
 use std::sync::Arc;
-use xa_words::{Death, Key, ManagerSet};
+use xa_words::Key;
 
 // Where the bytes of a branch's name stand: those of the gtrid, a dot, and those of the bqual.
 #[derive(Clone, Copy)]
@@ -26,59 +26,24 @@ pub(crate) struct NamePlace {
     bqual: u8,
 }
 
+// Where the bytes of a gtrid stand, and how many there are.
+#[derive(Clone, Copy)]
+pub(crate) struct GtridPlace {
+    at: u32,
+    len: u8,
+}
+
 // Where the key of an addition stands.
 #[derive(Clone, Copy)]
 pub(crate) struct KeyPlace {
     at: u32,
 }
 
-// A step with places for its name and its key. The fields of each kind stand in an order that leaves few gaps, since
-// there is a step for each line.
-pub(crate) enum Kept<X, K> {
-    Call {
-        thread: u8,
-        line: u32,
-        manager: u32,
-        flags: u32,
-        call: ManagerCall<X, K>,
-    },
-    CommitAll {
-        thread: u8,
-        // How many bytes the gtrid has, and where they stand.
-        len: u8,
-        at: u32,
-        line: u32,
-        managers: ManagerSet,
-        death: Option<Death>,
-    },
-    Resolve {
-        thread: u8,
-        line: u32,
-    },
-    Turn {
-        line: u32,
-        manager: u32,
-    },
-    Reopen {
-        line: u32,
-    },
-}
+// A step as it is kept: it says where its name and its key stand.
+type KeptStep = Step<NamePlace, GtridPlace, KeyPlace>;
 
-// It is copied whole. A derived clone goes by its variants.
-impl<X: Copy, K: Copy> Clone for Kept<X, K> {
-    ghost is_clone = { λ a b. b ≡ a };
-
-    ghost is_infallible = { λ _. ⊤ };
-
-    fn clone(&self) -> Result<Kept<X, K>, AllocError> {
-        Ok(*self)
-    }
-}
-
-impl<X: Copy, K: Copy> Copy for Kept<X, K> {}
-
-// A step as it is kept.
-type KeptStep = Kept<NamePlace, KeyPlace>;
+// There is one for each line.
+const _: () = prove!(size_of::<KeptStep>() == 40);
 
 // The branch's name that stands at a place.
 #[inline(always)]
@@ -92,65 +57,41 @@ fn name_at<'a>(names: &'a [u8], place: NamePlace) -> Name<'a>
     Name::new(&names[at..at + len], dot)
 }
 
-// The global transaction whose gtrid stands at a place, and has so many bytes.
+// The global transaction whose gtrid stands at a place.
 #[inline(always)]
-fn gtrid_at<'a>(names: &'a [u8], at: u32, len: u8) -> Gtrid<'a>
-    requires { IsGtrid names.now at len }
-    ensures { result ≡ gtrid_at names.now at len }
+fn gtrid_at<'a>(names: &'a [u8], place: GtridPlace) -> Gtrid<'a>
+    requires { IsGtrid names.now place }
+    ensures { result ≡ gtrid_at names.now place }
 {
-    let at = at as usize;
-    Gtrid::new(&names[at..at + len as usize])
+    let at = place.at as usize;
+    Gtrid::new(&names[at..at + place.len as usize])
 }
 
 // The key that stands at a place.
 #[inline(always)]
 fn key_at(keys: &[Key], place: KeyPlace) -> Key
     requires { IsKey keys.now place }
-    ensures { result ≡ key_at keys.now place }
+    ensures { result ≡ key_at_place keys.now place }
 {
     keys[place.at as usize]
 }
 
 // The step, the bytes of whose name are kept from a place on, and whose key is kept at a place.
 fn kept_from(step: &Step<Name, Gtrid>, at: u32, key: u32) -> KeptStep
-    requires { HasSmallThread step.now }
     ensures { result ≡ kept_from at key step.now }
 {
-    match step {
-        Step::Task(task) => match &task.action {
-            Action::Call(called) => Kept::Call {
-                thread: task.thread as u8,
-                line: task.line,
-                manager: called.manager,
-                flags: called.flags,
-                call: called.call.map(
-                    |name| NamePlace {
-                        at,
-                        gtrid: name.gtrid().len() as u8,
-                        bqual: name.bqual().len() as u8,
-                    },
-                    |_| KeyPlace { at: key },
-                ),
-            },
-            Action::CommitAll(commit) => Kept::CommitAll {
-                thread: task.thread as u8,
-                len: commit.tran.bytes().len() as u8,
-                at,
-                line: task.line,
-                managers: commit.managers,
-                death: commit.death,
-            },
-            Action::Resolve => Kept::Resolve {
-                thread: task.thread as u8,
-                line: task.line,
-            },
+    step.map(
+        |name| NamePlace {
+            at,
+            gtrid: name.gtrid().len() as u8,
+            bqual: name.bqual().len() as u8,
         },
-        Step::Turn { line, manager } => Kept::Turn {
-            line: *line,
-            manager: *manager,
+        |gtrid| GtridPlace {
+            at,
+            len: gtrid.bytes().len() as u8,
         },
-        Step::Reopen { line } => Kept::Reopen { line: *line },
-    }
+        |_| KeyPlace { at: key },
+    )
 }
 
 // The step that is kept, with its name or its key.
@@ -159,70 +100,11 @@ fn step_at<'a>(names: &'a [u8], keys: &[Key], kept: &KeptStep) -> Step<Name<'a>,
     requires { IsNamed names.now keys.now kept.now }
     ensures { result ≡ step_at names.now keys.now kept.now }
 {
-    match kept {
-        Kept::Call {
-            thread,
-            line,
-            manager,
-            flags,
-            call,
-        } => Step::Task(Task {
-            line: *line,
-            thread: u32::from(*thread),
-            action: Action::Call(Called {
-                manager: *manager,
-                flags: *flags,
-                call: call.map(|place| name_at(names, *place), |place| key_at(keys, *place)),
-            }),
-        }),
-        Kept::CommitAll {
-            thread,
-            len,
-            at,
-            line,
-            managers,
-            death,
-        } => Step::Task(Task {
-            line: *line,
-            thread: u32::from(*thread),
-            action: Action::CommitAll(CommitAll {
-                tran: gtrid_at(names, *at, *len),
-                managers: *managers,
-                death: *death,
-            }),
-        }),
-        Kept::Resolve { thread, line } => Step::Task(Task {
-            line: *line,
-            thread: u32::from(*thread),
-            action: Action::Resolve,
-        }),
-        Kept::Turn { line, manager } => Step::Turn {
-            line: *line,
-            manager: *manager,
-        },
-        Kept::Reopen { line } => Step::Reopen { line: *line },
-    }
-}
-
-impl<X, K> Kept<X, K> {
-    // Whether it is a task of the thread.
-    pub(crate) fn is_of(&self, thread: u32) -> bool
-        ensures { result ≡ is_kept_of thread self.now }
-    {
-        match self {
-            Kept::Call { thread: own, .. }
-            | Kept::CommitAll { thread: own, .. }
-            | Kept::Resolve { thread: own, .. } => u32::from(*own) == thread,
-            Kept::Turn { .. } | Kept::Reopen { .. } => false,
-        }
-    }
-
-    // Whether it opens the managers again.
-    pub(crate) fn is_reopen(&self) -> bool
-        ensures { result ≡ is_kept_reopen self.now }
-    {
-        matches!(self, Kept::Reopen { .. })
-    }
+    kept.map(
+        |place| name_at(names, *place),
+        |place| gtrid_at(names, *place),
+        |place| key_at(keys, *place),
+    )
 }
 
 /// Steps in their order. Contracts see the list of them.
@@ -293,7 +175,7 @@ fn place_of(len: usize) -> Result<u32, AllocError>
 }
 
 fn any_reopens(kept: &[KeptStep]) -> bool
-    ensures { result ≡ list_any is_kept_reopen kept.now }
+    ensures { result ≡ list_any is_reopen kept.now }
 {
     kept.iter().any(|step| step.is_reopen())
 }
@@ -326,7 +208,6 @@ impl Steps {
 
     /// Adds a step. It fails for want of memory, and where names or keys stand at all places that there are for them.
     pub(crate) fn push(&mut self, step: &Step<Name, Gtrid>) -> Result<(), AllocError>
-        requires { HasSmallThread step.now }
         ensures pushed { OnOk result (self.new ≡ self.old ++ step.now ∷ []) }
         ensures same { OnErr result (self.new ≡ self.old) }
     {

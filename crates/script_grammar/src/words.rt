@@ -2,9 +2,10 @@
 ghost use Rattle.std.specs.Prelude.{◌≡◌, ◌<◌, ◌≤◌, ◌∷◌, [], length, take, drop, true, false, Ok, Err, IfOk};
 ghost use Rattle.std.specs.Prelude.{MatchOption, MatchResult, ◌==◌, IfSome};
 ghost use Rattle.script_grammar.specs.Text.{is_space, starts_blank, words_of, IsPlain, IsWord, dot};
-ghost use Rattle.script_grammar.specs.Fields.{Takes, word_at, end_of, number_at, key_at, xid_at, tran_at, delta_at};
-ghost use Rattle.script_grammar.specs.Fields.{flags_onto, all_digits, number_of, number_in, is_name_byte, is_name, xid_of};
-ghost use Rattle.script_grammar.specs.Fields.{tran_named, signed_number_of, delta_in, flag_of};
+ghost use Rattle.script_grammar.specs.Fields.{TakesWords, word_at, end_of, number_at, key_at, xid_at, tran_at};
+ghost use Rattle.script_grammar.specs.Fields.{delta_at, flags_onto, all_digits, number_of_word, number_within};
+ghost use Rattle.script_grammar.specs.Fields.{is_name_byte, is_name, xid_of_word, tran_named, signed_number_of};
+ghost use Rattle.script_grammar.specs.Fields.{delta_in, flag_of};
 ghost use Rattle.script_grammar.specs.Grammar.{are_comment};
 ghost use Rattle.std.specs.List.{list_all, position_or_len};
 ghost use Rattle.std.specs.Map.{lookup};
@@ -85,7 +86,7 @@ impl<'a> Words<'a> {
 
     #[tactic(auto, unfolding(crate::specs::Fields::number_at))]
     pub(crate) fn number(&mut self, low: u64, high: u64) -> Result<u64, Reason>
-        ensures takes { Takes result self.new (number_at low high self.old) }
+        ensures takes { TakesWords result self.new (number_at low high self.old) }
         ensures at_least { IfOk result (λ n. low ≤ n) }
         ensures at_most { IfOk result (λ n. n ≤ high) }
     {
@@ -94,28 +95,28 @@ impl<'a> Words<'a> {
 
     #[tactic(auto, unfolding(crate::specs::Fields::key_at))]
     pub(crate) fn key(&mut self) -> Result<Key, Reason>
-        ensures { Takes result self.new (key_at self.old) }
+        ensures { TakesWords result self.new (key_at self.old) }
     {
         Key::new(self.word()?).ok_or(Reason::BadKey)
     }
 
     #[tactic(auto, unfolding(crate::specs::Fields::xid_at))]
     pub(crate) fn xid(&mut self) -> Result<Name<'a>, Reason>
-        ensures { Takes result self.new (xid_at self.old) }
+        ensures { TakesWords result self.new (xid_at self.old) }
     {
         xid_of(self.word()?).ok_or(Reason::BadXid)
     }
 
     #[tactic(auto, unfolding(crate::specs::Fields::tran_at))]
     pub(crate) fn tran(&mut self) -> Result<Gtrid<'a>, Reason>
-        ensures { Takes result self.new (tran_at self.old) }
+        ensures { TakesWords result self.new (tran_at self.old) }
     {
         tran_named(self.word()?).ok_or(Reason::BadXid)
     }
 
     #[tactic(auto, unfolding(crate::specs::Fields::delta_at))]
     pub(crate) fn delta(&mut self) -> Result<Delta, Reason>
-        ensures { Takes result self.new (delta_at self.old) }
+        ensures { TakesWords result self.new (delta_at self.old) }
     {
         delta_in(self.word()?)
     }
@@ -190,7 +191,7 @@ pub(crate) fn all_digits(word: &[u8]) -> bool
 
 // The number that 1 to 18 digits are.
 fn number_of(word: &[u8]) -> Option<u64>
-    ensures value { result ≡ number_of word.now }
+    ensures value { result ≡ number_of_word word.now }
     ensures fits { IfSome result (λ n. n < 1_000_000_000_000_000_000) }
 {
     if word.is_empty() || word.len() > 18 {
@@ -207,7 +208,7 @@ fn number_of(word: &[u8]) -> Option<u64>
 }
 
 pub(crate) fn number_in(low: u64, high: u64, word: &[u8]) -> Result<u64, Reason>
-    ensures value { result ≡ number_in low high word.now }
+    ensures value { result ≡ number_within low high word.now }
     ensures at_least { IfOk result (λ n. low ≤ n) }
     ensures at_most { IfOk result (λ n. n ≤ high) }
 {
@@ -252,7 +253,7 @@ fn dot_at(word: &[u8]) -> usize
 
 // The branch that `G.B` names, of format 1.
 pub(crate) fn xid_of(word: &[u8]) -> Option<Name<'_>>
-    ensures { result ≡ xid_of word.now }
+    ensures { result ≡ xid_of_word word.now }
 {
     let dot = dot_at(word);
     if dot == word.len() {

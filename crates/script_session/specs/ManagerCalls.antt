@@ -26,8 +26,8 @@ pub record HasAnswered (effects : DeskView → ℕ → DeskView → ℤ → Type
   pub shown : a ≡ shown answer
 
 -- XA_OK is shown with the handle and its code.
-abbrev pub completed : ℤ → ℤ → ℤ → Answer
-completed handle retval n = if int_eq n (pos 0) then Completed handle retval else shown n
+abbrev pub shown_completion : ℤ → ℤ → ℤ → Answer
+shown_completion handle retval n = if int_eq n (pos 0) then Completed handle retval else shown n
 
 -- What an xa_complete of this handle does to its thread's desk, and what it answers.
 pub record HasCollected (c : ScriptCalled) (old : DeskView) (h : ℤ) (new : DeskView) (a : Answer) : Type 0 where
@@ -35,12 +35,12 @@ pub record HasCollected (c : ScriptCalled) (old : DeskView) (h : ℤ) (new : Des
   pub retval : ℤ
   pub answer : ℤ
   pub completes : HasCompleted old h (pos 0) c.manager c.flags new handle retval answer
-  pub shown : a ≡ completed handle retval answer
+  pub shown : a ≡ shown_completion handle retval answer
 
 -- A negative answer is shown alone, and another with what was written.
-abbrev pub IsListed : ℤ → List XidName → Answer → Type 0
-IsListed (negsuc n) xids a = a ≡ shown (negsuc n)
-IsListed (pos n) xids a = (v : Vec Xid Global) × (v.items ≡ take n xids) × (a ≡ Recovered v)
+abbrev pub ShowsListed : ℤ → List XidName → Answer → Type 0
+ShowsListed (negsuc n) xids a = a ≡ shown (negsuc n)
+ShowsListed (pos n) xids a = (v : Vec Xid Global) × (v.items ≡ take n xids) × (a ≡ Recovered v)
 
 -- What an xa_recover with room for n xids does to its thread's desk and scan, and what it answers.
 pub record HasListed (c : ScriptCalled) (n : ℕ) (old : DeskView) (z : ScanView) (new : DeskView) (z' : ScanView)
@@ -50,18 +50,18 @@ pub record HasListed (c : ScriptCalled) (n : ℕ) (old : DeskView) (z : ScanView
   pub answer : ℤ
   pub room : length before ≡ n
   pub recovers : HasRecovered c.manager c.flags old z before new z' after answer
-  pub shown : IsListed answer after a
+  pub shown : ShowsListed answer after a
 
 -- What a call does to its thread's desk and scan, and what it answers. Only an xa_recover moves the scan.
-abbrev pub Answers : ScriptCall → ScriptCalled → DeskView → ScanView → DeskView → ScanView → Answer → Type 0
-Answers (manager_call.Xa f x) c old z new z' a = HasAnswered (Calls (asked_of f x c.flags)) c old new a × (z' ≡ z)
-Answers (manager_call.Heur x commits) c old z new z' a =
+abbrev pub CallAnswers : ScriptCall → ScriptCalled → DeskView → ScanView → DeskView → ScanView → Answer → Type 0
+CallAnswers (manager_call.Xa f x) c old z new z' a = HasAnswered (Calls (asked_of f x c.flags)) c old new a × (z' ≡ z)
+CallAnswers (manager_call.Heur x commits) c old z new z' a =
     HasAnswered (Calls (native (rm.Heur x commits) c.flags)) c old new a × (z' ≡ z)
-Answers (manager_call.Add k d) c old z new z' a =
+CallAnswers (manager_call.Add k d) c old z new z' a =
     HasAnswered (Calls (native (rm.Add k d) c.flags)) c old new a × (z' ≡ z)
-Answers manager_call.Shut c old z new z' a = HasAnswered (Calls (native rm.Shut c.flags)) c old new a × (z' ≡ z)
-Answers (manager_call.Complete h) c old z new z' a = HasCollected c old h new a × (z' ≡ z)
-Answers (manager_call.Recover n) c old z new z' a = HasListed c n old z new z' a
+CallAnswers manager_call.Shut c old z new z' a = HasAnswered (Calls (native rm.Shut c.flags)) c old new a × (z' ≡ z)
+CallAnswers (manager_call.Complete h) c old z new z' a = HasCollected c old h new a × (z' ≡ z)
+CallAnswers (manager_call.Recover n) c old z new z' a = HasListed c n old z new z' a
 
 -- Whether a call may wait: a synchronous call that isn't refused may, an xa_complete without TMNOWAIT, and an
 -- xa_recover that asks its manager.

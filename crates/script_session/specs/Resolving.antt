@@ -10,6 +10,7 @@ use Rattle.xa_driver.specs.Resolving.{MayResolve, IsTraceOfResolve, ResolvesInTu
 use Rattle.script_transcript.specs.declared.answer.Answer.{Answer}
 use Rattle.script_transcript.specs.declared.answer.Answer.TheVariants as answer
 use Rattle.script_session.specs.declared.session.Session.{Session}
+use Rattle.script_session.specs.Logs.{log_state}
 
 -- The thread's log is known, and there is room for what is to be asked.
 pub record CanResolve (x : Session) : Type 0 where
@@ -21,9 +22,9 @@ pub record CanResolve (x : Session) : Type 0 where
 pub data ResolvesLeft (old new : Session) (a : Answer) : Type 0 where
   refused : (CanResolve old → ⊥) → a ≡ answer.Refused → new ≡ old → ResolvesLeft old new a
   resolved : (outcomes : Vec Outcome Global) → CanResolve old
-      → IsTraceOfResolve old.scan old.log.found.state.records old.desk.ledgers new.desk.ledgers outcomes.items
+      → IsTraceOfResolve old.scan (log_state old.log).records old.desk.ledgers new.desk.ledgers outcomes.items
       → new.log ≡ old.log → new.scan ≡ old.scan → KeepsDesk old.desk new.desk
       → outstanding new.desk.ledgers ≡ outstanding old.desk.ledgers
       → a ≡ answer.Resolved outcomes
-      → ResolvesInTurn Answers old.log.found.state.records old.scan old.desk MOST_MANAGERS outcomes.items new.desk
+      → ResolvesInTurn Answers (log_state old.log).records old.scan old.desk MOST_MANAGERS outcomes.items new.desk
       → ResolvesLeft old new a

@@ -9,20 +9,20 @@ ghost use Rattle.xa_calls.specs.Scans.{asks};
 ghost use Rattle.xa_words.specs.Flags.{check_flags};
 ghost use Rattle.xa_words.specs.Xid.{XidName};
 ghost use Rattle.xa_words.specs.declared.flags.Call.TheVariants as call;
-ghost use Rattle.script_session.specs.ManagerCalls.{completed, HasAnswered, HasCollected, HasListed, IsListed, Answers};
-ghost use Rattle.script_session.specs.ManagerCalls.{manager_call_waits};
-ghost use Rattle.script_session.specs.Sessions.{session_of, Does, MayWait};
+ghost use Rattle.script_session.specs.ManagerCalls.{shown_completion, HasAnswered, HasCollected, HasListed};
+ghost use Rattle.script_session.specs.ManagerCalls.{ShowsListed, CallAnswers, manager_call_waits};
+ghost use Rattle.script_session.specs.Sessions.{session_of, TaskDoes, MayWait};
 
-use crate::commits::commit;
+use crate::commits::commit_asked;
 use crate::resolving::resolve_left;
+use script_grammar::{Action, Called, Gtrid, ManagerCall, Name};
+use script_transcript::Answer;
 use std::alloc::{AllocError, Global};
 use std::sync::Wait;
 use xa_calls::{native, xa_call, xa_complete, xa_recover};
 use xa_desk::{Desk, Idle};
-use script_grammar::{Action, Called, Gtrid, ManagerCall, Name};
-use xa_log::LosingLog;
+use xa_log::{MemoryLog, TrialLog};
 use xa_scan::Scan;
-use script_transcript::Answer;
 use xa_words::{Call, RmOp, Xid};
 
 /// Does what a task asks for, and gives its answer. It fails only for want of memory, and then nothing is done.
@@ -31,12 +31,12 @@ pub fn carry_out<R: Wait, I: Idle>(
     rt: &R,
     alloc: Global,
     desk: &mut Desk,
-    log: &mut LosingLog,
+    log: &mut TrialLog<MemoryLog>,
     scan: &mut Scan,
     action: &Action<Name, Gtrid>,
     idle: &mut I,
 ) -> Result<Answer, AllocError>
-    ensures does { IfOk result (Does action.now (session_of desk.old log.old scan.old)
+    ensures does { IfOk result (TaskDoes action.now (session_of desk.old log.old scan.old)
         (session_of desk.new log.new scan.new)) }
     ensures goes_on { GoesOn desk.old desk.new }
     ensures kept { AllKept desk.old → AllKept desk.new }
@@ -48,7 +48,7 @@ pub fn carry_out<R: Wait, I: Idle>(
 {
     match action {
         Action::Call(called) => answer(rt, alloc, desk, scan, called, idle),
-        Action::CommitAll(asked) => commit(rt, alloc, desk, log, asked, idle),
+        Action::CommitAll(asked) => commit_asked(rt, alloc, desk, log, asked, idle),
         Action::Resolve => resolve_left(rt, alloc, desk, log, scan, idle),
     }
 }
@@ -97,7 +97,7 @@ fn answer<R: Wait, I: Idle>(
     called: &Called<Name>,
     idle: &mut I,
 ) -> Result<Answer, AllocError>
-    ensures answers { IfOk result (Answers called.now.call called.now desk.old scan.old desk.new scan.new) }
+    ensures answers { IfOk result (CallAnswers called.now.call called.now desk.old scan.old desk.new scan.new) }
     ensures goes_on { GoesOn desk.old desk.new }
     ensures kept { AllKept desk.old → AllKept desk.new }
     ensures unsent { OnErr result (desk.new ≡ desk.old) }
@@ -167,7 +167,7 @@ fn recovered<R: Wait, I: Idle>(
 
 // The answer of an xa_recover, which is shown with what it wrote.
 fn listed(answer: i32, mut xids: Vec<Xid>) -> Answer
-    ensures { IsListed answer xids.items result }
+    ensures { ShowsListed answer xids.items result }
 {
     if answer < 0 {
         return Answer::Called(answer);
@@ -220,7 +220,7 @@ fn completed<R: Wait, I: Idle>(
 // The answer of an xa_complete, which on XA_OK is shown with what it wrote.
 #[inline(always)]
 fn told(answer: i32, handle: i32, retval: i32) -> Answer
-    ensures { result ≡ completed handle retval answer }
+    ensures { result ≡ shown_completion handle retval answer }
 {
     if answer != 0 {
         return Answer::Called(answer);

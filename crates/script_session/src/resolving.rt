@@ -5,14 +5,14 @@ ghost use Rattle.xa_desk.specs.Kept.{AllKept};
 ghost use Rattle.script_session.specs.Resolving.{CanResolve, ResolvesLeft};
 ghost use Rattle.script_session.specs.Sessions.{session_of};
 
+use script_transcript::Answer;
 use std::alloc::{AllocError, Global};
 use std::sync::Wait;
 use xa_desk::laws::desks_go_on;
 use xa_desk::{Desk, Idle};
 use xa_driver::{ResolveFault, may_resolve, resolve};
-use xa_log::LosingLog;
+use xa_log::{MemoryLog, TrialLog};
 use xa_scan::Scan;
-use script_transcript::Answer;
 
 /// Resolves what was left, where the log is known and there is room for it. It fails only for want of memory, and then
 /// nothing is done.
@@ -20,7 +20,7 @@ pub(crate) fn resolve_left<R: Wait, I: Idle>(
     rt: &R,
     alloc: Global,
     desk: &mut Desk,
-    log: &LosingLog,
+    log: &TrialLog<MemoryLog>,
     scan: &Scan,
     idle: &mut I,
 ) -> Result<Answer, AllocError>

@@ -4,23 +4,25 @@ use Rattle.std.specs.List.{flat_map}
 use Rattle.std.specs.Fmt.{signed_decimal}
 use Rattle.xa_words.specs.CodeNumbers.{number_of}
 use Rattle.xa_words.specs.declared.code.Code.{Code}
-use Rattle.xa_words.specs.declared.death.Death.{Death}
-use Rattle.xa_words.specs.declared.death.Death.TheVariants as death
 use Rattle.xa_words.specs.Xid.{XidName}
+use Rattle.xa_driver.specs.declared.done.CommitOutcome.{CommitOutcome}
+use Rattle.xa_driver.specs.declared.done.CommitOutcome.TheVariants as outcome
 use Rattle.xa_driver.specs.declared.done.Done.{Done}
 use Rattle.xa_driver.specs.declared.done.Ending.{Ending}
+use Rattle.xa_driver.specs.declared.done.LastKnown.{LastKnown}
+use Rattle.xa_driver.specs.declared.done.LastKnown.TheVariants as known
 use Rattle.xa_driver.specs.declared.resolved.Outcome.{Outcome}
 use Rattle.xa_driver.specs.declared.done.Ending.TheVariants.{Committed, ReadOnly, RolledBack, InDoubt, Heuristic, Left}
 use Rattle.script_transcript.specs.declared.answer.Answer.{Answer}
-use Rattle.script_transcript.specs.declared.answer.Answer.TheVariants.{Called, Completed, Recovered, Refused, Decided}
-use Rattle.script_transcript.specs.declared.answer.Answer.TheVariants.{Undecided, Died, Resolved}
-use Rattle.script_transcript.specs.declared.answer.Told.{Told}
-use Rattle.script_transcript.specs.declared.answer.Told.TheVariants.{Answered, Turned, Ended, Reopened}
-use Rattle.xa_worker.specs.declared.step.Step.{Step}
-use Rattle.xa_worker.specs.declared.step.Step.TheVariants.{Did, Late, EndSeen, Empty, Blocked}
+use Rattle.script_transcript.specs.declared.answer.Answer.TheVariants.{Called, Completed, Recovered, Refused, Commit}
+use Rattle.script_transcript.specs.declared.answer.Answer.TheVariants.{Resolved}
+use Rattle.script_transcript.specs.declared.answer.TranscriptLine.{TranscriptLine}
+use Rattle.script_transcript.specs.declared.answer.TranscriptLine.TheVariants.{Answered, Turned, Ended, Reopened}
+use Rattle.xa_worker.specs.declared.step.WorkerStep.{WorkerStep}
+use Rattle.xa_worker.specs.declared.step.WorkerStep.TheVariants.{Did, Late, EndSeen, Empty, Blocked}
 
 -- did, late, end, empty, blocked
-abbrev pub turn_text : Step → List ℕ
+abbrev pub turn_text : WorkerStep → List ℕ
 turn_text Did = codes "did"
 turn_text Late = codes "late"
 turn_text EndSeen = codes "end"
@@ -63,21 +65,27 @@ abbrev pub votes_text : List Code → List ℕ
 votes_text votes = flat_map (λ v. codes " " ++ vote_text v) votes
 
 -- The decision, and whether it was logged.
-abbrev pub decided_text : Done → List ℕ
-decided_text d = decision_text d.commit ++ codes " " ++ record_text d.logged
+abbrev pub decided_text : Bool → Bool → List ℕ
+decided_text commit logged = decision_text commit ++ codes " " ++ record_text logged
 
 -- The decision, whether it was logged, and what became of each branch.
 abbrev pub done_text : Done → List ℕ
-done_text d = decided_text d ++ endings_text d.endings.items
+done_text d = decided_text d.commit d.logged ++ endings_text d.endings.items
 
 -- What was known of a commit as its coordinator died: the votes, with the decision before them once it was made, and in
 -- the end what became of each branch.
-abbrev pub known_text : Death → Done → List ℕ
-known_text (death.Preparing k) d = votes_text d.votes.items
-known_text death.Prepared d = votes_text d.votes.items
-known_text death.Decided d = codes " " ++ decided_text d ++ votes_text d.votes.items
-known_text (death.Telling k) d = codes " " ++ decided_text d ++ votes_text d.votes.items
-known_text death.Told d = codes " " ++ done_text d
+abbrev pub known_text : LastKnown → List ℕ
+known_text (known.Votes votes) = votes_text votes.items
+known_text (known.Decided decision votes) =
+    codes " " ++ decided_text decision.commit decision.logged ++ votes_text votes.items
+known_text (known.Told done) = codes " " ++ done_text done
+
+-- What a commit came to: commit logged E .., undecided V .., died V .., died commit logged V ..,
+-- died commit logged E ..
+abbrev pub commit_text : CommitOutcome → List ℕ
+commit_text (outcome.Decided done) = done_text done
+commit_text (outcome.Undecided votes) = codes "undecided" ++ votes_text votes.items
+commit_text (outcome.Died at last) = codes "died" ++ known_text last
 
 -- G.B
 abbrev pub xid_text : XidName → List ℕ
@@ -102,20 +110,17 @@ outcome_text o =
 abbrev pub outcomes_text : List Outcome → List ℕ
 outcomes_text outcomes = flat_map (λ o. codes " " ++ outcome_text o) outcomes
 
--- C, 0 handle H retval R, N X .., refused, commit logged E .., undecided V .., died V .., died commit logged V ..,
--- died commit logged E .., resolved O ..
+-- C, 0 handle H retval R, N X .., refused, what a commit came to, resolved O ..
 abbrev pub answer_text : Answer → List ℕ
 answer_text (Called answer) = signed_decimal answer
 answer_text (Completed handle retval) = codes "0" ++ handle_text (signed_decimal handle) retval
 answer_text (Recovered xids) = listed_text xids.items
 answer_text Refused = codes "refused"
-answer_text (Decided done) = done_text done
-answer_text (Undecided votes) = codes "undecided" ++ votes_text votes.items
-answer_text (Died at known) = codes "died" ++ known_text at known
+answer_text (Commit o) = commit_text o
 answer_text (Resolved outcomes) = codes "resolved" ++ outcomes_text outcomes.items
 
 -- L T and the answer, L turn S, end T handle H retval R, L reopened
-abbrev pub told_text : Told → List ℕ
+abbrev pub told_text : TranscriptLine → List ℕ
 told_text (Answered line thread answer) =
     decimal line ++ codes " " ++ decimal thread ++ codes " " ++ answer_text answer
 told_text (Turned line step) = decimal line ++ codes " turn " ++ turn_text step
@@ -123,9 +128,9 @@ told_text (Ended thread handle retval) = codes "end " ++ decimal thread ++ handl
 told_text (Reopened line) = decimal line ++ codes " reopened"
 
 -- What a line tells, and its line feed.
-abbrev pub line_text : Told → List ℕ
+abbrev pub line_text : TranscriptLine → List ℕ
 line_text told = told_text told ++ codes "\n"
 
 -- The lines, one after the other.
-abbrev pub lines_text : List Told → List ℕ
+abbrev pub lines_text : List TranscriptLine → List ℕ
 lines_text lines = flat_map line_text lines

@@ -2,7 +2,7 @@
 use Rattle.std.specs.Prelude.{ℕ, List, ◌++◌, codes, decimal}
 use Rattle.std.specs.List.{flat_map}
 use Rattle.script_grammar.specs.declared.script.Declared.{Declared}
-use Rattle.script_transcript.specs.declared.answer.Told.{Told}
+use Rattle.script_transcript.specs.declared.answer.TranscriptLine.{TranscriptLine}
 use Rattle.script_transcript.specs.Text.{lines_text}
 
 -- value M KEY V
@@ -14,5 +14,5 @@ abbrev pub values_text : List Declared → List ℕ
 values_text values = flat_map value_text values
 
 -- The lines that were told stand first, then the values.
-abbrev pub text : List Told → List Declared → List ℕ
+abbrev pub text : List TranscriptLine → List Declared → List ℕ
 text told values = lines_text told ++ values_text values

@@ -11,19 +11,19 @@ use Rattle.xa_tables.specs.Managers.{opening}
 use Rattle.xa_switch.specs.Settled.{ManagerPart, Settling}
 use Rattle.xa_switch.specs.Fates.{history}
 use Rattle.script_grammar.specs.declared.script.Declared.{Declared}
-use Rattle.script_grammar.specs.Contents.{Content, managers_of, accounts_of}
+use Rattle.script_grammar.specs.Contents.{Content, managers_of, declared_accounts}
 
 -- The tables of manager m at its first opening.
 abbrev pub opened : Content → ℕ → Tables
-opened s m = opening (accounts_of m s.keys)
+opened s m = opening (declared_accounts m s.keys)
 
 -- What manager m took in each of these openings.
-abbrev pub histories : List Settling → ℕ → List History
-histories openings m = map (λ o. history o m) openings
+abbrev pub histories_at : List Settling → ℕ → List History
+histories_at openings m = map (λ o. history o m) openings
 
 -- The tables of manager m as the next opening after these begins.
 abbrev pub opened_after : Content → List Settling → ℕ → Tables
-opened_after s openings m = left_by (histories openings m) (opened s m)
+opened_after s openings m = left_by (histories_at openings m) (opened s m)
 
 -- Each manager of the script is there, by rising number, and began with its tables.
 pub record AreOfScript (s : Content) (tables : ℕ → Tables) (managers : List ManagerPart) : Type 0 where
@@ -37,7 +37,7 @@ name_of d = (d.manager, d.key)
 
 -- The key has the value that it has after the requests in its manager's journals of these openings.
 abbrev pub IsWorth : Content → List Settling → Declared → Type 0
-IsWorth s openings d = value_over d.key (histories openings d.manager) (opened s d.manager) ≡ Some (pos d.value)
+IsWorth s openings d = value_over d.key (histories_at openings d.manager) (opened s d.manager) ≡ Some (pos d.value)
 
 -- Keys are shown by rising manager, and of one manager by the bytes of the key.
 abbrev pub shown_cmp : Declared → Declared → Ordering

@@ -1,7 +1,7 @@
 //! What the lines of a transcript tell.
-use xa_driver::{Done, Outcome};
-use xa_words::{Code, Death, Xid};
-use xa_worker::Step;
+use xa_driver::{CommitOutcome, Outcome};
+use xa_words::Xid;
+use xa_worker::WorkerStep;
 
 /// What a thread's task answered.
 #[derive(Debug, Drop)]
@@ -15,16 +15,12 @@ pub enum Answer {
     /// What was asked for may not be done, and nothing was: the branches may not be committed, or there is no room to
     /// resolve what is left: `refused`.
     Refused,
-    /// What became of the branches of a commit: `commit logged E ..`, `commit unlogged E ..` or
-    /// `abort unlogged E ..`.
-    Decided(Done),
-    /// Nobody knows whether the log has the record, so no branch was told a decision: `undecided`, and `vote:C` for
-    /// each branch, in their order.
-    Undecided(Vec<Code>),
-    /// The coordinator of a commit died at this point, and what was known of the commit by then: `died`, and `vote:C`
-    /// for each vote that it had; once it was decided `died commit logged vote:C ..`, `died commit unlogged vote:C ..`
-    /// or `died abort unlogged vote:C ..`; and once all branches were told the words of `Decided` after `died`.
-    Died { at: Death, known: Done },
+    /// What a commit of several branches came to. Once all were told, what became of each: `commit logged E ..`,
+    /// `commit unlogged E ..` or `abort unlogged E ..`. Where nobody knows whether the log has the record:
+    /// `undecided`, and `vote:C` for each branch, in their order. Where the coordinator died: `died`, and `vote:C` for
+    /// each vote that it had; once it was decided `died commit logged vote:C ..`, `died commit unlogged vote:C ..` or
+    /// `died abort unlogged vote:C ..`; and once all branches were told what became of each after `died`.
+    Commit(CommitOutcome),
     /// What became of the branches that the reopening found left: `resolved`, and `M:G.B:commit:C` or
     /// `M:G.B:rollback:C` for each.
     Resolved(Vec<Outcome>),
@@ -32,7 +28,7 @@ pub enum Answer {
 
 /// A line of a transcript before the values. Lines and threads count from 1, and handles do.
 #[derive(Debug, Drop)]
-pub enum Told {
+pub enum TranscriptLine {
     /// What a thread's task on this line answered: `L T`, and the answer.
     Answered {
         line: u32,
@@ -42,7 +38,7 @@ pub enum Told {
     /// What a manager's worker did in its turn: `L turn S`.
     Turned {
         line: u32,
-        step: Step,
+        step: WorkerStep,
     },
     /// An operation that was outstanding after the thread's last line: `end T handle H retval R`.
     Ended {

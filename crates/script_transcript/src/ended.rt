@@ -1,17 +1,17 @@
 //! The lines of what was outstanding after a thread's last line.
 ghost use Rattle.std.specs.Prelude.{◌≡◌, ◌++◌, OnOk};
-ghost use Rattle.script_transcript.specs.ThreadEnds.{ended, all_ended};
+ghost use Rattle.script_transcript.specs.ThreadEnds.{end_line, all_ended};
 
-use crate::answer::Told;
+use crate::answer::TranscriptLine;
 use crate::transcript::Transcript;
 use std::alloc::AllocError;
 use xa_words::Code;
 
 // The line of an operation by its handle and its code.
-fn ended(thread: u32, handle: u32, code: Code) -> Told
-    ensures { result ≡ ended thread (handle, code) }
+fn ended(thread: u32, handle: u32, code: Code) -> TranscriptLine
+    ensures { result ≡ end_line thread (handle, code) }
 {
-    Told::Ended {
+    TranscriptLine::Ended {
         thread,
         handle,
         retval: code.value(),

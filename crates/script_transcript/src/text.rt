@@ -2,17 +2,17 @@
 ghost use Rattle.std.specs.Prelude.{◌≡◌, ◌++◌, OnOk, decimal};
 ghost use Rattle.std.specs.Fmt.{signed_decimal};
 ghost use Rattle.script_transcript.specs.Text.{turn_text, handle_text, decision_text, record_text, ending_text};
-ghost use Rattle.script_transcript.specs.Text.{endings_text, vote_text, votes_text, decided_text, done_text, known_text};
-ghost use Rattle.script_transcript.specs.Text.{xid_text, listed_text, resolution_text};
+ghost use Rattle.script_transcript.specs.Text.{endings_text, vote_text, votes_text, decided_text, done_text};
+ghost use Rattle.script_transcript.specs.Text.{known_text, commit_text, xid_text, listed_text, resolution_text};
 ghost use Rattle.script_transcript.specs.Text.{outcome_text, outcomes_text, answer_text, told_text, line_text};
 
-use crate::answer::{Answer, Told};
+use crate::answer::{Answer, TranscriptLine};
 use crate::lines::Lines;
 use itoa::{Buffer, Integer};
 use std::alloc::AllocError;
-use xa_driver::{Done, Ending, Outcome};
-use xa_words::{Code, Death, Xid};
-use xa_worker::Step;
+use xa_driver::{CommitOutcome, Done, Ending, LastKnown, Outcome};
+use xa_words::{Code, Xid};
+use xa_worker::WorkerStep;
 
 pub(crate) fn put_number<I: Integer>(out: &mut Lines, number: I) -> Result<(), AllocError>
     ensures line { OnOk result (out.new.line ≡ out.old.line ++ I.text number) }
@@ -48,15 +48,15 @@ fn put_signed(out: &mut Lines, number: i32) -> Result<(), AllocError>
 }
 
 // What stands for a turn: did, late, end, empty or blocked.
-fn turn_text(step: Step) -> &'static [u8]
+fn turn_text(step: WorkerStep) -> &'static [u8]
     ensures { result.now ≡ turn_text step }
 {
     match step {
-        Step::Did => b"did",
-        Step::Late => b"late",
-        Step::EndSeen => b"end",
-        Step::Empty => b"empty",
-        Step::Blocked => b"blocked",
+        WorkerStep::Did => b"did",
+        WorkerStep::Late => b"late",
+        WorkerStep::EndSeen => b"end",
+        WorkerStep::Empty => b"empty",
+        WorkerStep::Blocked => b"blocked",
     }
 }
 
@@ -140,13 +140,13 @@ fn put_votes(out: &mut Lines, votes: &[Code]) -> Result<(), AllocError>
 }
 
 // The decision, and whether it was logged.
-fn put_decided(out: &mut Lines, done: &Done) -> Result<(), AllocError>
-    ensures line { OnOk result (out.new.line ≡ out.old.line ++ decided_text done.now) }
+fn put_decided(out: &mut Lines, commit: bool, logged: bool) -> Result<(), AllocError>
+    ensures line { OnOk result (out.new.line ≡ out.old.line ++ decided_text commit logged) }
     ensures whole { out.new.whole ≡ out.old.whole }
 {
-    out.extend(decision_text(done.commit))?;
+    out.extend(decision_text(commit))?;
     out.push(b' ')?;
-    out.extend(record_text(done.logged))
+    out.extend(record_text(logged))
 }
 
 // The decision, whether it was logged, and what became of each branch.
@@ -154,26 +154,44 @@ fn put_done(out: &mut Lines, done: &Done) -> Result<(), AllocError>
     ensures line { OnOk result (out.new.line ≡ out.old.line ++ done_text done.now) }
     ensures whole { out.new.whole ≡ out.old.whole }
 {
-    put_decided(out, done)?;
+    put_decided(out, done.commit, done.logged)?;
     put_endings(out, &done.endings)
 }
 
 // What was known of a commit as its coordinator died: the votes, then the decision too, and at last what became of each
 // branch.
-fn put_known(out: &mut Lines, at: Death, known: &Done) -> Result<(), AllocError>
-    ensures line { OnOk result (out.new.line ≡ out.old.line ++ known_text at known.now) }
+fn put_known(out: &mut Lines, known: &LastKnown) -> Result<(), AllocError>
+    ensures line { OnOk result (out.new.line ≡ out.old.line ++ known_text known.now) }
     ensures whole { out.new.whole ≡ out.old.whole }
 {
-    match at {
-        Death::Preparing(_) | Death::Prepared => put_votes(out, &known.votes),
-        Death::Decided | Death::Telling(_) => {
+    match known {
+        LastKnown::Votes(votes) => put_votes(out, votes),
+        LastKnown::Decided { decision, votes } => {
             out.push(b' ')?;
-            put_decided(out, known)?;
-            put_votes(out, &known.votes)
+            put_decided(out, decision.commit, decision.logged)?;
+            put_votes(out, votes)
         }
-        Death::Told => {
+        LastKnown::Told(done) => {
             out.push(b' ')?;
-            put_done(out, known)
+            put_done(out, done)
+        }
+    }
+}
+
+// What a commit came to.
+fn put_commit(out: &mut Lines, outcome: &CommitOutcome) -> Result<(), AllocError>
+    ensures line { OnOk result (out.new.line ≡ out.old.line ++ commit_text outcome.now) }
+    ensures whole { out.new.whole ≡ out.old.whole }
+{
+    match outcome {
+        CommitOutcome::Decided(done) => put_done(out, done),
+        CommitOutcome::Undecided(votes) => {
+            out.extend(b"undecided")?;
+            put_votes(out, votes)
+        }
+        CommitOutcome::Died { known, .. } => {
+            out.extend(b"died")?;
+            put_known(out, known)
         }
     }
 }
@@ -247,15 +265,7 @@ fn put_answer(out: &mut Lines, answer: &Answer) -> Result<(), AllocError>
         }
         Answer::Recovered(xids) => put_listed(out, xids),
         Answer::Refused => out.extend(b"refused"),
-        Answer::Decided(done) => put_done(out, done),
-        Answer::Undecided(votes) => {
-            out.extend(b"undecided")?;
-            put_votes(out, votes)
-        }
-        Answer::Died { at, known } => {
-            out.extend(b"died")?;
-            put_known(out, *at, known)
-        }
+        Answer::Commit(outcome) => put_commit(out, outcome),
         Answer::Resolved(outcomes) => {
             out.extend(b"resolved")?;
             put_outcomes(out, outcomes)
@@ -264,12 +274,12 @@ fn put_answer(out: &mut Lines, answer: &Answer) -> Result<(), AllocError>
 }
 
 // What a line tells.
-fn put_told(out: &mut Lines, told: &Told) -> Result<(), AllocError>
+fn put_told(out: &mut Lines, told: &TranscriptLine) -> Result<(), AllocError>
     ensures line { OnOk result (out.new.line ≡ out.old.line ++ told_text told.now) }
     ensures whole { out.new.whole ≡ out.old.whole }
 {
     match told {
-        Told::Answered {
+        TranscriptLine::Answered {
             line,
             thread,
             answer,
@@ -280,12 +290,12 @@ fn put_told(out: &mut Lines, told: &Told) -> Result<(), AllocError>
             out.push(b' ')?;
             put_answer(out, answer)
         }
-        Told::Turned { line, step } => {
+        TranscriptLine::Turned { line, step } => {
             put_number(out, *line)?;
             out.extend(b" turn ")?;
             out.extend(turn_text(*step))
         }
-        Told::Ended {
+        TranscriptLine::Ended {
             thread,
             handle,
             retval,
@@ -294,7 +304,7 @@ fn put_told(out: &mut Lines, told: &Told) -> Result<(), AllocError>
             put_count(out, *thread)?;
             put_handle(out, *handle, *retval)
         }
-        Told::Reopened { line } => {
+        TranscriptLine::Reopened { line } => {
             put_number(out, *line)?;
             out.extend(b" reopened")
         }
@@ -302,7 +312,7 @@ fn put_told(out: &mut Lines, told: &Told) -> Result<(), AllocError>
 }
 
 // The line, with its line feed.
-pub(crate) fn put_line(out: &mut Lines, told: &Told) -> Result<(), AllocError>
+pub(crate) fn put_line(out: &mut Lines, told: &TranscriptLine) -> Result<(), AllocError>
     ensures line { OnOk result (out.new.line ≡ out.old.line ++ line_text told.now) }
     ensures whole { out.new.whole ≡ out.old.whole }
 {

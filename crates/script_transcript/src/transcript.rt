@@ -2,7 +2,7 @@
 ghost use Rattle.std.specs.Prelude.{◌≡◌, ◌++◌, ◌∷◌, [], IfOk, OnOk, OnErr};
 ghost use Rattle.script_transcript.specs.Text.{lines_text};
 
-use crate::answer::Told;
+use crate::answer::TranscriptLine;
 use crate::lines::Lines;
 use crate::text::put_line;
 use http_server::Log;
@@ -16,7 +16,7 @@ pub const LINE: usize = 16;
 pub struct Transcript {
     text: Lines,
     // What the lines tell. They have no bytes: only proofs read them.
-    told: Log<Told, ()>,
+    told: Log<TranscriptLine, ()>,
 }
 
 // It is dropped by one call, wherever that is, and not part by part there.
@@ -28,10 +28,10 @@ impl Drop for Transcript {
 
 impl Model for Transcript {
     ghost use Rattle.std.specs.Prelude.{◌≡◌, List, [], map};
-    ghost use Rattle.script_transcript.specs.declared.answer.Told.{Told};
+    ghost use Rattle.script_transcript.specs.declared.answer.TranscriptLine.{TranscriptLine};
     ghost use Rattle.script_transcript.specs.Text.{lines_text};
 
-    ghost Value = { List Told };
+    ghost Value = { List TranscriptLine };
 
     ghost view = { λ t. map (λ x. x.0) t.told.items };
 
@@ -50,7 +50,7 @@ impl Transcript {
     }
 
     /// Tells one more line.
-    pub fn tell(&mut self, told: Told) -> Result<(), AllocError>
+    pub fn tell(&mut self, told: TranscriptLine) -> Result<(), AllocError>
         ensures told { OnOk result (self.new ≡ self.old ++ told ∷ []) }
         ensures same { OnErr result (self.new ≡ self.old) }
     {

@@ -3,8 +3,8 @@ ghost use Rattle.std.specs.Prelude.{List, [], ◌∷◌, ◌++◌, IfOk};
 ghost use Rattle.xa_switch.specs.Settled.{Settling};
 ghost use Rattle.script_transcript.specs.Values.{opened_after, AreOfScript, AreValues};
 
-use std::alloc::{AllocError, Global};
 use script_grammar::{Declared, Script};
+use std::alloc::{AllocError, Global};
 use xa_switch::Settled;
 
 /// The keys of a script with their values in the settled opening, in the order in which they are shown. Where other

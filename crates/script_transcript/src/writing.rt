@@ -5,10 +5,10 @@ ghost use Rattle.script_transcript.specs.Transcript.{value_text, values_text};
 
 use crate::lines::Lines;
 use crate::text::put_number;
+use script_grammar::Declared;
 use std::alloc::{AllocError, Global};
 use std::io::Write;
 use thiserror::Error;
-use script_grammar::Declared;
 
 /// Why a run shows nothing, or not all.
 #[derive(Clone, Copy, Debug, PartialEq, Eq, Error)]

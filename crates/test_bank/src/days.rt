@@ -7,13 +7,13 @@ mod stuck;
 
 ghost use Rattle.std.specs.Prelude.{◌≡◌, length};
 
+use demo_bank::{Day, Teller, Transfer, run_day};
 use std::alloc::Global;
 use std::process::Abort;
 use std::sync::Wait;
 use std::thread::Threads;
-use demo_bank::{Day, Teller, Transfer, run_day};
 use xa_crew::{CrewFault, run_clients_in_turns};
-use xa_driver::Ending;
+use xa_driver::{CommitOutcome, Ending};
 use xa_log::MemoryLog;
 use xa_switch::{Plan, Settled};
 use xa_words::Key;
@@ -149,20 +149,19 @@ fn sum_of(rt: &impl Abort, settled: &Settled) -> u64 {
 fn is_whole(outcome: &WorkOutcome) -> bool {
     match outcome {
         WorkOutcome::Refused(_) => true,
-        WorkOutcome::Died { at: _, known: _ } | WorkOutcome::Undecided(_) => false,
-        WorkOutcome::Decided(done) if done.commit => done.endings.iter().all(|ending| matches!(
-            ending,
-            Ending::Committed | Ending::ReadOnly
-        )),
-        WorkOutcome::Decided(done) => done
+        WorkOutcome::Commit(CommitOutcome::Decided(done)) if done.commit => {
+            done.endings.iter().all(|ending| matches!(ending, Ending::Committed | Ending::ReadOnly))
+        }
+        WorkOutcome::Commit(CommitOutcome::Decided(done)) => done
             .endings
             .iter()
             .all(|ending| *ending != Ending::Committed),
+        WorkOutcome::Commit(_) => false,
     }
 }
 
 fn is_committed(outcome: &WorkOutcome) -> bool {
-    matches!(outcome, WorkOutcome::Decided(done) if done.commit)
+    matches!(outcome, WorkOutcome::Commit(CommitOutcome::Decided(done)) if done.commit)
 }
 
 // A teller's transfers between its own tills are in nobody's way, and have the funds.

@@ -1,14 +1,14 @@
 //! Days of the bank. On each day a store is shut, and a teller dies in a commit; each night ends what was left. What
 //! the stores have in the end is compared with the abstract machine: the transfers that were applied, one by one.
+use demo_bank::{DiesAt, ShutsAt, Teller, Transfer};
+use demo_bank_days::{Bank, Closed, Days, Errands, Stop, run_days};
 use std::alloc::Global;
 use std::process::Abort;
 use std::sync::Wait;
-use demo_bank::{DiesAt, ShutsAt, Teller, Transfer};
-use demo_bank_days::{Bank, Closed, Days, Errands, Stop, run_days};
-use xa_log::{DecisionLog, LosingLog, MemoryLog};
+use xa_log::{DecisionLog, MemoryLog, TrialLog};
 use xa_switch::{Plan, Settled};
 use xa_words::{Death, Key};
-use xa_work::WorkOutcome;
+use xa_work::{CommitOutcome, WorkOutcome};
 
 const TELLERS: u32 = 4;
 
@@ -54,11 +54,11 @@ fn plan_of(rt: &impl Abort, alloc: Global) -> Plan {
 }
 
 // The tellers, each with an empty log in memory; that of the last refuses its fifth record.
-fn tellers_of(rt: &impl Abort, alloc: Global) -> Vec<Teller<MemoryLog>> {
+fn tellers_of(rt: &impl Abort, alloc: Global) -> Vec<Teller<TrialLog<MemoryLog>>> {
     let mut tellers = Vec::new(alloc);
     for place in 0..TELLERS {
         let failing = if place + 1 == TELLERS { 5 } else { 0 };
-        let log = MemoryLog::failing_at(alloc, failing);
+        let log = TrialLog::new(MemoryLog::new(alloc)).failing_at(failing);
         let teller = Teller::new(alloc, log, Vec::new(alloc)).expect(rt, "memory");
         tellers.push(teller).expect(rt, "memory");
     }
@@ -81,13 +81,14 @@ fn failing_tellers_of(
     failure: Failure,
     first: u32,
     more: u32,
-) -> Vec<Teller<LosingLog>> {
+) -> Vec<Teller<TrialLog<MemoryLog>>> {
     let (mut tellers, mut k) = (Vec::new(alloc), first);
     for _ in 0..TELLERS {
+        let log = TrialLog::new(MemoryLog::new(alloc));
         let log = match failure {
-            Failure::Refused => LosingLog::new(MemoryLog::failing_at(alloc, k)),
-            Failure::Kept => LosingLog::losing_at(MemoryLog::new(alloc), k, true),
-            Failure::Gone => LosingLog::losing_at(MemoryLog::new(alloc), k, false),
+            Failure::Refused => log.failing_at(k),
+            Failure::Kept => log.losing_at(k, true),
+            Failure::Gone => log.losing_at(k, false),
         };
         let teller = Teller::new(alloc, log, Vec::new(alloc)).expect(rt, "memory");
         tellers.push(teller).expect(rt, "memory");
@@ -166,9 +167,8 @@ fn quiet_days_of(rt: &impl Abort, alloc: Global, many: u32) -> Vec<Vec<Errands>>
 // to have.
 fn is_applied(outcome: &WorkOutcome, found: bool) -> bool {
     match outcome {
-        WorkOutcome::Decided(done) => done.commit,
-        WorkOutcome::Died { at: _, known } => known.logged,
-        WorkOutcome::Undecided(_) => found,
+        WorkOutcome::Commit(CommitOutcome::Undecided(_)) => found,
+        WorkOutcome::Commit(outcome) => outcome.is_to_commit(),
         WorkOutcome::Refused(_) => false,
     }
 }
@@ -283,7 +283,10 @@ fn lost(closed: &[Closed]) -> (usize, usize) {
     for over in closed {
         for outcomes in &over.outcomes {
             let last = outcomes.last();
-            let is_lost = last.is_some_and(|o| matches!(o, WorkOutcome::Undecided(_)));
+            let is_lost = last.is_some_and(|o| matches!(
+                o,
+                WorkOutcome::Commit(CommitOutcome::Undecided(_))
+            ));
             lost = lost.wrapping_add(usize::from(is_lost));
         }
         for has in &over.found {

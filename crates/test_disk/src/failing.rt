@@ -4,7 +4,7 @@ ghost use Rattle.std.specs.Prelude.{IsTrue};
 use sqlite_disk::Disk;
 use std::alloc::Global;
 use std::process::Abort;
-use xa_disk::{Backing, DeviceFault, OpenFault, Tape, Tear, WriteThrough};
+use xa_disk::{Backing, DeviceFault, DiskOpenFault, Tape, Tear, WriteThrough};
 
 // A disk over a file of these bytes, whose k-th call fails. The first two calls are those of the opening.
 fn disk(rt: &impl Abort, alloc: Global, bytes: &[u8], k: u32) -> WriteThrough<Tape>
@@ -75,7 +75,7 @@ fn a_large_file_is_refused(rt: HostRuntime) {
     match WriteThrough::new(alloc, tape, 100) {
         Ok(_) => panic!(rt; "read"),
         Err((fault, tape)) => {
-            assert!(rt; fault == OpenFault::TooLarge);
+            assert!(rt; fault == DiskOpenFault::TooLarge);
             assert!(rt; tape.calls() == 0);
         }
     }
@@ -87,6 +87,6 @@ fn a_file_that_is_not_synced_is_refused(rt: HostRuntime) {
     let tape = Tape::of(alloc, b"abc", 2, Tear::Nothing).expect(&rt, "memory");
     match WriteThrough::new(alloc, tape, 100) {
         Ok(_) => panic!(rt; "read"),
-        Err((fault, _)) => assert!(rt; fault == OpenFault::Failed(DeviceFault::Failed)),
+        Err((fault, _)) => assert!(rt; fault == DiskOpenFault::Failed(DeviceFault::Failed)),
     }
 }

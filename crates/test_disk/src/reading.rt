@@ -7,10 +7,10 @@ use sqlite_value::value::ValueRef;
 use std::alloc::Global;
 use std::process::Abort;
 use xa_disk::{Tape, Tear};
-use xa_slots::{ReadFault, SlotTables};
+use xa_slots::{SlotTables, TableReadFault};
 
 // What reading a table finds in which one slot is set: the slots that are taken, or why it isn't read.
-fn read_with(rt: &impl Abort, alloc: Global, slot: u32) -> Result<u32, ReadFault> {
+fn read_with(rt: &impl Abort, alloc: Global, slot: u32) -> Result<u32, TableReadFault> {
     let tapes = Pair {
         log: Tape::of(alloc, &[], 0, Tear::Nothing).expect(rt, "memory"),
         db: Tape::of(alloc, &[], 0, Tear::Nothing).expect(rt, "memory"),
@@ -32,7 +32,7 @@ fn read_with(rt: &impl Abort, alloc: Global, slot: u32) -> Result<u32, ReadFault
             .is_ok()
     );
     let slots = tables.read(alloc, 1, SLOTS)?;
-    assert!(rt; slots.len() == SLOTS as usize);
+    assert!(rt; slots.len() == slot as usize + 1);
     Ok(taken(&slots))
 }
 
@@ -55,6 +55,6 @@ fn slots_are_read(rt: HostRuntime) {
 #[test]
 fn a_row_that_is_no_slot_is_refused(rt: HostRuntime) {
     let alloc = rt.alloc();
-    assert!(rt; read_with(&rt, alloc, SLOTS) == Err(ReadFault::NotSlots));
-    assert!(rt; read_with(&rt, alloc, u32::MAX) == Err(ReadFault::NotSlots));
+    assert!(rt; read_with(&rt, alloc, SLOTS) == Err(TableReadFault::NotSlots));
+    assert!(rt; read_with(&rt, alloc, u32::MAX) == Err(TableReadFault::NotSlots));
 }

@@ -19,13 +19,13 @@ mod woven;
 use std::alloc::Global;
 use std::process::Abort;
 use std::sync::Wait;
+use test_support::two;
 use xa_calls::{RmOp, native, xa_call};
 use xa_crew::Turns;
 use xa_desk::Desk;
 use xa_driver::{Branch, Done, Ending, may_commit};
 use xa_log::MemoryLog;
 use xa_switch::Plan;
-use test_support::two;
 use xa_words::{Call, Code, Delta, Key, TMNOFLAGS, TMSUCCESS, Xid};
 
 // The desks of two threads, with the workers of their opening.

@@ -9,7 +9,7 @@ use std::sync::Wait;
 use xa_calls::{RmOp, xa_call};
 use xa_crew::Turns;
 use xa_desk::Desk;
-use xa_driver::{Branch, Done, Ending, commit_all, may_commit};
+use xa_driver::{Branch, CommitOutcome, Done, Ending, commit, may_commit};
 use xa_log::{CommitRecord, DecisionLog, DecisionRecords, MemoryLog};
 use xa_words::{Call, Delta, Key, ManagerSet, Xid};
 
@@ -110,10 +110,10 @@ impl Committer {
         }
         let before = self.state();
         let (desk, log, idle) = (&mut self.desk, &mut self.log, &mut self.workers);
-        match commit_all(rt, alloc, desk, log, self.branches.as_slice(), idle) {
-            Ok(done) => self.judge(&done),
+        match commit(rt, alloc, desk, log, self.branches.as_slice(), None, idle) {
+            Ok(CommitOutcome::Decided(done)) => self.judge(&done),
             Err(_) if self.state() == before => Came::Refused,
-            Err(_) => Came::Wrong,
+            _ => Came::Wrong,
         }
     }
 }

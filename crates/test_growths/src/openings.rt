@@ -5,11 +5,11 @@ ghost use Rattle.xa_switch.specs.Belonging.{ComeFromOpenings, openings_of, seat_
 
 use std::alloc::Global;
 use std::sync::Wait;
+use test_support::one;
 use xa_crew::Turns;
 use xa_desk::Desk;
 use xa_switch::Plan;
 use xa_switch::laws::{opened_pieces_come_from_their_opening, opened_pieces_have_their_number};
-use test_support::one;
 use xa_words::Key;
 
 /// A plan of one thread and so many managers, each with a key `a` of value 5. None for want of memory.

@@ -8,6 +8,7 @@ use crate::settling::end_all;
 use crate::thing::Came;
 use std::alloc::Global;
 use std::sync::Wait;
+use test_support::one;
 use xa_calls::{RmOp, xa_call, xa_recover};
 use xa_crew::Turns;
 use xa_desk::Desk;
@@ -15,7 +16,6 @@ use xa_driver::{Branch, Outcome, may_resolve, resolve};
 use xa_log::MemoryLog;
 use xa_scan::Scan;
 use xa_switch::{Again, OpenFault, Settled, reopen, settle};
-use test_support::one;
 use xa_words::{Call, Code, Delta, Key, TMENDRSCAN, TMNOFLAGS, TMSTARTRSCAN, Xid};
 
 // Adds 1 for the branch, and prepares it.

@@ -10,13 +10,13 @@ use crate::thing::{Came, begin, tell};
 use std::alloc::Global;
 use std::io::{self, Write};
 use std::sync::Wait;
+use test_support::{end, run_all};
 use xa_calls::{RmOp, native, xa_call, xa_complete};
 use xa_crew::Turns;
 use xa_desk::{Desk, EndedDesk};
 use xa_driver::Branch;
 use xa_switch::laws::mixed_pieces_come_from_their_openings;
 use xa_switch::{Why, settle};
-use test_support::{end, run_all};
 use xa_words::{
     Call, Code, Delta, Key, TMASYNC, TMMULTIPLE, TMNOFLAGS, TMNOWAIT, TMONEPHASE, TMSUCCESS,
 };

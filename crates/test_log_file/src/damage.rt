@@ -4,7 +4,7 @@ use crate::memory::{SLOT, durable_of, empty, fault_of, open_tape, opened, record
 use crate::tape::Tape;
 use std::alloc::Global;
 use std::process::Abort;
-use xa_log_file::OpenFault;
+use xa_log_file::LogOpenFault;
 
 // A file with one record.
 fn with_one(rt: &impl Abort, alloc: Global) -> Vec<u8> {
@@ -14,11 +14,11 @@ fn with_one(rt: &impl Abort, alloc: Global) -> Vec<u8> {
 }
 
 fn is_damaged(rt: &impl Abort, alloc: Global, bytes: &[u8]) -> bool {
-    fault_of(rt, alloc, bytes) == Some(OpenFault::Damaged)
+    fault_of(rt, alloc, bytes) == Some(LogOpenFault::Damaged)
 }
 
 fn is_no_log(rt: &impl Abort, alloc: Global, bytes: &[u8]) -> bool {
-    fault_of(rt, alloc, bytes) == Some(OpenFault::NotALog)
+    fault_of(rt, alloc, bytes) == Some(LogOpenFault::NotALog)
 }
 
 #[test]
@@ -37,7 +37,7 @@ fn no_gate_is_ajar(rt: &impl Abort, alloc: Global) {
     let mut ajar = empty(rt, alloc);
     for gate in 1..=255 {
         *ajar.get_mut(18).expect(rt, "a gate") = gate;
-        assert!(rt; fault_of(rt, alloc, &ajar) == Some(OpenFault::Damaged));
+        assert!(rt; fault_of(rt, alloc, &ajar) == Some(LogOpenFault::Damaged));
     }
 }
 
@@ -59,7 +59,7 @@ fn refused(rt: &impl Abort, alloc: Global, bytes: &[u8]) -> Tape {
     match open_tape(alloc, Tape::of(rt, alloc, bytes, 0)) {
         Ok(_) => panic!(rt; "a log"),
         Err((fault, tape)) => {
-            assert!(rt; fault == OpenFault::NotALog);
+            assert!(rt; fault == LogOpenFault::NotALog);
             tape
         }
     }

@@ -3,20 +3,20 @@
 use crate::memory::{SLOTS, has, lacks, record, takes};
 use std::alloc::Global;
 use std::fs;
-use xa_log_file::{FileLog, HostFile, Mirrored, create, open};
+use xa_log_file::{FileLog, LogHostFile, Mirrored, create, open};
 
 const PATH: &str = "xa_file_log_test";
 
-type Log = FileLog<Mirrored<HostFile>>;
+type Log = FileLog<Mirrored<LogHostFile>>;
 
 fn created(rt: &HostRuntime, alloc: Global) -> Option<Log> {
-    let file = HostFile::create(rt, PATH, ".").ok()?;
+    let file = LogHostFile::create(rt, PATH, ".").ok()?;
     let device = Mirrored::new(alloc, file).ok()?;
     create(alloc, device, SLOTS).ok()
 }
 
 fn opened(rt: &HostRuntime, alloc: Global) -> Option<Log> {
-    let file = HostFile::open(rt, PATH).ok()?;
+    let file = LogHostFile::open(rt, PATH).ok()?;
     let device = Mirrored::new(alloc, file).ok()?;
     open(alloc, device).ok()
 }
@@ -30,7 +30,7 @@ fn a_real_file_keeps_its_records(rt: HostRuntime) {
     assert!(rt; lacks(&log, &one));
     assert!(rt; takes(&mut log, &one));
     // No other handle has it open.
-    assert!(rt; HostFile::open(&rt, PATH).is_err());
+    assert!(rt; LogHostFile::open(&rt, PATH).is_err());
     drop(log);
     let again = opened(&rt, alloc).expect(&rt, "a log");
     assert!(rt; has(&again, &one));

@@ -4,7 +4,7 @@ use crate::memory::{SLOTS, create_over, empty, fault_of, file_of};
 use crate::tape::Tape;
 use std::alloc::Global;
 use std::process::Abort;
-use xa_log_file::{CreateFault, Mirrored, OpenFault};
+use xa_log_file::{CreateFault, LogOpenFault, Mirrored};
 
 // The file of a log whose making fails at the k-th call; the ninth would be one more than there are.
 fn made(rt: &impl Abort, alloc: Global, k: u32) -> Tape {
@@ -23,7 +23,8 @@ fn made(rt: &impl Abort, alloc: Global, k: u32) -> Tape {
 
 // Whether the bytes are no log, or an empty one.
 fn is_none_or_empty(rt: &impl Abort, alloc: Global, image: &[u8]) -> bool {
-    fault_of(rt, alloc, image) == Some(OpenFault::NotALog) || image == empty(rt, alloc).as_slice()
+    fault_of(rt, alloc, image) == Some(LogOpenFault::NotALog)
+        || image == empty(rt, alloc).as_slice()
 }
 
 #[test]
@@ -55,6 +56,6 @@ fn no_log_is_made_over_bytes(rt: HostRuntime) {
     let Err((fault, tape)) = Mirrored::new(alloc, Tape::of(&rt, alloc, b"other", 0)) else {
         panic!(rt; "a device");
     };
-    assert!(rt; fault == OpenFault::NotALog);
+    assert!(rt; fault == LogOpenFault::NotALog);
     assert!(rt; !tape.is_touched());
 }

@@ -4,8 +4,8 @@ ghost use Rattle.std.specs.Prelude.{◌≤◌};
 use crate::tape::Tape;
 use std::alloc::Global;
 use std::process::Abort;
-use xa_log_file::{CreateFault, Device, FileLog, Mirrored, OpenFault, create, open};
 use xa_log::{CommitRecord, DecisionLog, DecisionRecords, LogFault};
+use xa_log_file::{CreateFault, Device, FileLog, LogOpenFault, Mirrored, create, open};
 use xa_words::{ManagerSet, Tran};
 
 /// A log over the file in memory.
@@ -49,7 +49,7 @@ pub(crate) fn numbered(rt: &impl Abort, number: u32) -> CommitRecord {
 // ---- logs
 
 /// A log over the file, or why it isn't opened, and the file.
-pub(crate) fn open_tape(alloc: Global, tape: Tape) -> Result<Log, (OpenFault, Tape)> {
+pub(crate) fn open_tape(alloc: Global, tape: Tape) -> Result<Log, (LogOpenFault, Tape)> {
     let device = Mirrored::new(alloc, tape)?;
     match open(alloc, device) {
         Ok(log) => Ok(log),
@@ -66,7 +66,7 @@ pub(crate) fn opened(rt: &impl Abort, alloc: Global, bytes: &[u8], fails: u32) -
 }
 
 /// Why these bytes aren't opened.
-pub(crate) fn fault_of(rt: &impl Abort, alloc: Global, bytes: &[u8]) -> Option<OpenFault> {
+pub(crate) fn fault_of(rt: &impl Abort, alloc: Global, bytes: &[u8]) -> Option<LogOpenFault> {
     match open_tape(alloc, Tape::of(rt, alloc, bytes, 0)) {
         Ok(_) => None,
         Err((fault, _)) => Some(fault),

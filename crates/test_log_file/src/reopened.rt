@@ -4,8 +4,8 @@ use crate::memory::{Log, SLOTS, added, empty, lacks, opened, record};
 use crate::tape::Tape;
 use std::alloc::Global;
 use std::process::Abort;
-use xa_log_file::{CreateFault, Device, Mirrored, create};
 use xa_log::LogFault;
+use xa_log_file::{CreateFault, Device, Mirrored, create};
 
 // Neither a sync nor a write of the device succeeds.
 fn is_dead(device: &mut Mirrored<Tape>) -> bool {

@@ -6,7 +6,7 @@ use crate::memory::{
 use crate::tape::Tape;
 use std::alloc::Global;
 use std::process::Abort;
-use xa_log_file::OpenFault;
+use xa_log_file::LogOpenFault;
 
 // A file with one record.
 fn with_one(rt: &impl Abort, alloc: Global) -> Vec<u8> {
@@ -28,7 +28,7 @@ fn torn_at(rt: &impl Abort, alloc: Global, left: &Tape, fails: u32) -> Tape {
     match open_tape(alloc, next) {
         Ok(_) => panic!(rt; "a log"),
         Err((fault, tape)) => {
-            assert!(rt; fault == OpenFault::Failed);
+            assert!(rt; fault == LogOpenFault::Failed);
             tape
         }
     }

@@ -1,10 +1,10 @@
 //! A file in memory that tears.
 ghost use Rattle.std.specs.Prelude.{◌≡◌, ◌≤◌, length, OnOk};
-ghost use Rattle.xa_log_file.specs.Device.{overwritten};
+ghost use Rattle.xa_log_file.specs.Device.{log_overwritten};
 
 use std::alloc::{AllocError, Global};
 use std::process::Abort;
-use xa_log_file::{Backing, DeviceFault, ReadFault};
+use xa_log_file::{LogBacking, LogDeviceFault, LogReadFault};
 
 /// A file in memory whose k-th write or sync fails, and then is torn. What is written and not yet synced is `now`.
 #[derive(Drop)]
@@ -90,7 +90,7 @@ impl Tape {
 // Puts the bytes in the place of those that are there, and past the end.
 fn overwrite(file: &mut Vec<u8>, at: usize, bytes: &[u8]) -> Result<(), AllocError>
     requires { at ≤ length file.old.items }
-    ensures { OnOk result (file.new.items ≡ overwritten file.old.items at bytes.now) }
+    ensures { OnOk result (file.new.items ≡ log_overwritten file.old.items at bytes.now) }
 {
     let end = at.checked_add(bytes.len()).ok_or(AllocError)?;
     if end > file.len() {
@@ -100,7 +100,7 @@ fn overwrite(file: &mut Vec<u8>, at: usize, bytes: &[u8]) -> Result<(), AllocErr
     Ok(())
 }
 
-impl Backing for Tape {
+impl LogBacking for Tape {
     ghost told = { λ t. length t.now.items };
 
     ghost found = { λ t. t.now.items };
@@ -109,35 +109,35 @@ impl Backing for Tape {
 
     ghost kept = { λ t. t.durable.items };
 
-    fn size(&mut self) -> Result<u64, DeviceFault> {
+    fn size(&mut self) -> Result<u64, LogDeviceFault> {
         Ok(self.now.len() as u64)
     }
 
-    fn read_all(&mut self, alloc: Global, _len: usize) -> Result<Vec<u8>, ReadFault> {
+    fn read_all(&mut self, alloc: Global, _len: usize) -> Result<Vec<u8>, LogReadFault> {
         self.reads = self.reads.saturating_add(1);
         Ok(self.now.to_vec(alloc)?)
     }
 
-    fn rewrite(&mut self, _bytes: &Vec<u8>) -> Result<(), DeviceFault> {
+    fn rewrite(&mut self, _bytes: &Vec<u8>) -> Result<(), LogDeviceFault> {
         if self.is_failing() {
-            Err(DeviceFault)
+            Err(LogDeviceFault)
         } else {
             Ok(())
         }
     }
 
-    fn write_part(&mut self, copy: &Vec<u8>, at: usize, len: usize) -> Result<(), DeviceFault> {
+    fn write_part(&mut self, copy: &Vec<u8>, at: usize, len: usize) -> Result<(), LogDeviceFault> {
         let part = &copy[at..at + len];
         if self.is_failing() {
             let _ = overwrite(&mut self.now, at, &part[..len / 2]);
-            return Err(DeviceFault);
+            return Err(LogDeviceFault);
         }
-        overwrite(&mut self.now, at, part).map_err(|_| DeviceFault)
+        overwrite(&mut self.now, at, part).map_err(|_| LogDeviceFault)
     }
 
-    fn sync_all(&mut self) -> Result<(), DeviceFault> {
+    fn sync_all(&mut self) -> Result<(), LogDeviceFault> {
         if self.is_failing() {
-            return Err(DeviceFault);
+            return Err(LogDeviceFault);
         }
         match self.now.to_vec(self.alloc) {
             Ok(copy) => {
@@ -145,7 +145,7 @@ impl Backing for Tape {
                 self.durable = copy;
                 Ok(())
             }
-            Err(_) => Err(DeviceFault),
+            Err(_) => Err(LogDeviceFault),
         }
     }
 }

@@ -8,6 +8,7 @@ pub put_one_more : (records : Records) (rs : List CommitRecord) (r : CommitRecor
 put_one_more records [] r = refl
 put_one_more records (q ∷ rs) r = put_one_more (insert records q.tran q.yes) rs r
 
-pub put_with : (log : LogState) (rs : List CommitRecord) → with_records log rs ≡ record { records = put_records log.records rs; failures = log.failures }
+pub put_with : (log : LogState) (rs : List CommitRecord)
+    → with_records log rs ≡ record { records = put_records log.records rs; failures = log.failures }
 put_with log [] = refl
 put_with log (r ∷ rs) = put_with (with_record log r.tran r.yes) rs

@@ -3,7 +3,7 @@ ghost use Rattle.std.specs.Prelude.{◌≡◌, ◌+◌, ◌%◌, ◌^◌, true, 
 ghost use Rattle.std.specs.FinMap.{insert};
 ghost use Rattle.xa_log.specs.declared.log.LogFault.TheVariants.{Refused, Unknown};
 ghost use Rattle.test_log_shared.specs.Puts.{put_records};
-ghost use Rattle.xa_log_shared.specs.Asking.{records_of};
+ghost use Rattle.xa_log_shared.specs.Asking.{own_records};
 
 use std::alloc::{AllocError, Global};
 use std::collections::HashMap;
@@ -35,14 +35,14 @@ pub struct CountedLog {
 // Puts the record. False where there is no memory.
 fn put(records: &mut HashMap<Tran, ManagerSet>, decision: &CommitRecord) -> bool
     ensures { result ≡ true
-        → records_of records.new ≡ insert (records_of records.old) decision.now.tran decision.now.yes }
+        → own_records records.new ≡ insert (own_records records.old) decision.now.tran decision.now.yes }
 {
     records.insert(decision.tran, decision.yes).is_ok()
 }
 
 // Puts these records. False where there is no memory for one of them.
 fn put_all(records: &mut HashMap<Tran, ManagerSet>, decisions: &[CommitRecord]) -> bool
-    ensures { result ≡ true → records_of records.new ≡ put_records (records_of records.old) decisions.now }
+    ensures { result ≡ true → own_records records.new ≡ put_records (own_records records.old) decisions.now }
 {
     for decision in decisions {
         if !put(records, decision) {
@@ -101,7 +101,7 @@ impl CountedLog {
 }
 
 impl DecisionRecords for CountedLog {
-    ghost records = { λ l. records_of l.records };
+    ghost records = { λ l. own_records l.records };
 
     ghost knows = { λ l. l.is_known ≡ true };
 
@@ -115,7 +115,7 @@ impl DecisionRecords for CountedLog {
 }
 
 impl DecisionLog for CountedLog {
-    ghost state = { λ l. record { records = records_of l.records; failures = l.failures } };
+    ghost state = { λ l. record { records = own_records l.records; failures = l.failures } };
 
     ghost appends = { λ tran yes taken old new. Unit {0} };
 

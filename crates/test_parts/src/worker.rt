@@ -12,7 +12,7 @@ use xa_base::MOST_JOURNALED;
 use xa_lane::{Receiver, Sender, Taken};
 use xa_store::NoStore;
 use xa_words::{Code, Completion, Op, Request};
-use xa_worker::{Pace, Step, Worker};
+use xa_worker::{Pace, Worker, WorkerStep};
 
 // Counts what it is called before.
 #[derive(Drop)]
@@ -43,7 +43,12 @@ fn ask<R: Wait + Abort>(rt: &R, sender: &mut Sender<Request>, thread: u32, ops: 
 }
 
 // The next steps of the worker are these.
-fn step_by<R: Wait + Abort>(rt: &R, worker: &mut Worker, pace: &mut Counting, steps: &[Step]) {
+fn step_by<R: Wait + Abort>(
+    rt: &R,
+    worker: &mut Worker,
+    pace: &mut Counting,
+    steps: &[WorkerStep],
+) {
     for (i, step) in steps.iter().enumerate() {
         assert!(rt; worker.step(rt, pace, &mut NoStore) == *step, "step {i}");
     }
@@ -106,7 +111,7 @@ fn collect_and_step<R: Wait + Abort>(
     number: u32,
     worker: &mut Worker,
     pace: &mut Counting,
-    steps: &[Step],
+    steps: &[WorkerStep],
 ) {
     collect(rt, answers, number, Code::Done);
     step_by(rt, worker, pace, steps);
@@ -119,7 +124,7 @@ fn each_answer_of_a_step(rt: HostRuntime) {
     let (mut worker, mut sender, mut answers) = opened_for_one(&rt, rt.alloc(), 8, 1);
     let mut pace = Counting { requests: 0 };
     assert!(rt; worker.manager() == 1);
-    step_by(&rt, &mut worker, &mut pace, &[Step::Empty]);
+    step_by(&rt, &mut worker, &mut pace, &[WorkerStep::Empty]);
     let ops = [Op::OpenRm, Op::CloseRm, Op::Shut, Op::OpenRm];
     ask(&rt, &mut sender, 1, &ops);
     assert!(rt; sender.finish(&rt).is_ok());
@@ -137,13 +142,39 @@ fn steps_while_full<R: Wait + Abort>(
     pace: &mut Counting,
     answers: &mut Receiver<Completion>,
 ) {
-    let blocked = [Step::Did, Step::Did, Step::Blocked, Step::Blocked];
+    let blocked = [
+        WorkerStep::Did,
+        WorkerStep::Did,
+        WorkerStep::Blocked,
+        WorkerStep::Blocked,
+    ];
     step_by(rt, worker, pace, &blocked);
     assert!(rt; pace.requests == 2);
-    collect_and_step(rt, answers, 0, worker, pace, &[Step::Did, Step::Blocked]);
-    collect_and_step(rt, answers, 1, worker, pace, &[Step::Late, Step::Blocked]);
+    collect_and_step(
+        rt,
+        answers,
+        0,
+        worker,
+        pace,
+        &[WorkerStep::Did, WorkerStep::Blocked],
+    );
+    collect_and_step(
+        rt,
+        answers,
+        1,
+        worker,
+        pace,
+        &[WorkerStep::Late, WorkerStep::Blocked],
+    );
     assert!(rt; pace.requests == 4);
-    collect_and_step(rt, answers, 2, worker, pace, &[Step::EndSeen, Step::Empty]);
+    collect_and_step(
+        rt,
+        answers,
+        2,
+        worker,
+        pace,
+        &[WorkerStep::EndSeen, WorkerStep::Empty],
+    );
 }
 
 /// It is held whatever is done, and what stands after it, also of another thread, is never taken.
@@ -152,10 +183,10 @@ fn a_request_of_another_thread_is_held(rt: HostRuntime) {
     let (mut worker, mut first, mut second, mut answers) = opened_for_two(&rt, rt.alloc(), 8, 4);
     let mut pace = Counting { requests: 0 };
     ask(&rt, &mut first, 2, &[Op::OpenRm]);
-    step_by(&rt, &mut worker, &mut pace, &[Step::Blocked]);
+    step_by(&rt, &mut worker, &mut pace, &[WorkerStep::Blocked]);
     ask(&rt, &mut first, 1, &[Op::OpenRm]);
     ask(&rt, &mut second, 2, &[Op::OpenRm]);
-    step_by(&rt, &mut worker, &mut pace, &[Step::Blocked; 3]);
+    step_by(&rt, &mut worker, &mut pace, &[WorkerStep::Blocked; 3]);
     for lane in &mut answers {
         assert!(rt; matches!(lane.take(&rt), Taken::Empty));
     }
@@ -168,9 +199,9 @@ fn a_request_without_room_is_held(rt: HostRuntime) {
     let (mut worker, mut sender, mut answers) = opened_for_one(&rt, rt.alloc(), 2, 1);
     let mut pace = Counting { requests: 0 };
     ask(&rt, &mut sender, 1, &[Op::OpenRm, Op::CloseRm, Op::OpenRm]);
-    let steps = [Step::Did, Step::Did, Step::Blocked];
+    let steps = [WorkerStep::Did, WorkerStep::Did, WorkerStep::Blocked];
     step_by(&rt, &mut worker, &mut pace, &steps);
-    let blocked = [Step::Blocked; 2];
+    let blocked = [WorkerStep::Blocked; 2];
     collect_and_step(&rt, &mut answers, 0, &mut worker, &mut pace, &blocked);
     collect_and_step(&rt, &mut answers, 1, &mut worker, &mut pace, &blocked[..1]);
     assert!(rt; matches!(answers.take(&rt), Taken::Empty));
@@ -183,7 +214,12 @@ fn a_worker_without_requests_ends_with_the_last_mark(rt: HostRuntime) {
     let (mut worker, first, second, mut answers) = opened_for_two(&rt, rt.alloc(), 1, 1);
     let mut pace = Counting { requests: 0 };
     assert!(rt; second.finish(&rt).is_ok());
-    step_by(&rt, &mut worker, &mut pace, &[Step::EndSeen, Step::Empty]);
+    step_by(
+        &rt,
+        &mut worker,
+        &mut pace,
+        &[WorkerStep::EndSeen, WorkerStep::Empty],
+    );
     assert!(rt; first.finish(&rt).is_ok());
     let done = worker.run(&rt, &mut pace, &mut NoStore);
     assert!(rt; done.journal().is_empty());

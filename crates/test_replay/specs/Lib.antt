@@ -1,3 +1,3 @@
 pub mod Replay
 -- The words of this crate, by its name.
-pub use Replay.{Agrees, ShowsValues, WasOpened, numbers_of}
+pub use Replay.{Agrees, ShowsValues, WasOpened, numbers_of_thread}

@@ -11,8 +11,8 @@ use Rattle.xa_tables.specs.Histories.{of_thread}
 use Rattle.xa_worker.specs.Journal.{Entry, Follows, requests}
 
 -- the numbers of thread t's requests in a journal, in its order
-abbrev pub numbers_of : ℕ → List Entry → List ℕ
-numbers_of t journal = map (λ r. r.number) (of_thread t (requests journal))
+abbrev pub numbers_of_thread : ℕ → List Entry → List ℕ
+numbers_of_thread t journal = map (λ r. r.number) (of_thread t (requests journal))
 
 -- the tables have these values of these keys
 abbrev pub ShowsValues : Tables → List (List ℕ × Option ℕ) → Type 0
@@ -31,5 +31,5 @@ pub record Agrees (accounts : List (List ℕ × ℕ)) (journal : List Entry) (se
   pub follows : Follows (opening accounts) journal last
   -- each request is of a thread that there is, and each thread's have the numbers 0, 1, .. in their order
   pub threads : All (λ e. IsUpTo (length sent) e.0.thread) journal
-  pub orders : (k n : ℕ) → slice_get sent k ≡ Some n → numbers_of (k + 1) journal ≡ range_with_len 0 n
+  pub orders : (k n : ℕ) → slice_get sent k ≡ Some n → numbers_of_thread (k + 1) journal ≡ range_with_len 0 n
   pub values_ : ShowsValues last values

@@ -6,7 +6,7 @@ ghost use Rattle.std.specs.Prelude.{◌≡◌, ◌≤◌, ◌+◌, ℕ, length, 
 ghost use Rattle.std.specs.List.{range_with_len};
 ghost use Rattle.xa_base.specs.Lists.{IsUpTo};
 ghost use Rattle.xa_worker.specs.Journal.{Follows};
-ghost use Rattle.test_replay.specs.Replay.{Agrees, ShowsValues, WasOpened, numbers_of};
+ghost use Rattle.test_replay.specs.Replay.{Agrees, ShowsValues, WasOpened, numbers_of_thread};
 
 use std::alloc::Global;
 use xa_base::{MOST_JOURNALED, MOST_THREADS};
@@ -34,7 +34,7 @@ fn replays(tables: &mut Manager, threads: u32, journal: &[(Request, Code)]) -> b
 
 // Whether the thread's requests have the numbers 0, 1, .. in the journal, as many as it sent.
 fn is_in_order(journal: &[(Request, Code)], thread: u32, sent: usize) -> bool
-    ensures { IsTrue result → numbers_of thread journal.now ≡ range_with_len 0 sent }
+    ensures { IsTrue result → numbers_of_thread thread journal.now ≡ range_with_len 0 sent }
 {
     let mut next = 0_usize;
     for entry in journal {
@@ -52,7 +52,7 @@ fn is_in_order(journal: &[(Request, Code)], thread: u32, sent: usize) -> bool
 fn are_in_order(journal: &[(Request, Code)], sent: &[usize]) -> bool
     requires { length sent.now ≤ MOST_THREADS }
     ensures { IsTrue result → (k n : ℕ) → slice_get sent.now k ≡ Some n
-        → numbers_of (k + 1) journal.now ≡ range_with_len 0 n }
+        → numbers_of_thread (k + 1) journal.now ≡ range_with_len 0 n }
 {
     for (before, many) in sent.iter().enumerate() {
         if !is_in_order(journal, before as u32 + 1, *many) {

@@ -3,10 +3,10 @@ mod deaths;
 mod reopening;
 mod tasks;
 
-use std::test::Fail;
 use script_grammar::{
     Action, Called, Declared, ManagerCall, Reason, Script, ScriptFault, Step, Task, read_script,
 };
+use std::test::Fail;
 use xa_words::{Call, Delta, Key, Tran, Xid};
 
 // A step with names of its own.

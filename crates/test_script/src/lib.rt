@@ -1,4 +1,5 @@
-//! Tests of how scripts are read, run and shown, over the public surfaces of script_grammar, script_transcript and xa_script.
+//! Tests of how scripts are read, run and shown, over the public surfaces of script_grammar, script_transcript and
+//! xa_script.
 #![tactic(auto)]
 
 #[cfg(test)]

@@ -1,20 +1,20 @@
 //! The bytes of a transcript, and the texts of a run's faults.
+use script_grammar::Declared;
+use script_transcript::{Answer, RunFault, Transcript, TranscriptLine, write_transcript};
 use std::alloc::Global;
 use std::test::Fail;
-use xa_driver::{Done, Ending};
-use script_grammar::Declared;
-use script_transcript::{Answer, RunFault, Told, Transcript, write_transcript};
+use xa_driver::{CommitOutcome, Decision, Done, Ending, LastKnown};
 use xa_words::{Code, Death, Key};
 
 #[test]
 fn a_transcript_has_the_answers_and_then_the_values(rt: HostRuntime) -> Result<(), Fail> {
     let lines = [
-        Told::Answered {
+        TranscriptLine::Answered {
             line: 2,
             thread: 1,
             answer: Answer::Called(0),
         },
-        Told::Answered {
+        TranscriptLine::Answered {
             line: 3,
             thread: 2,
             answer: Answer::Completed {
@@ -22,16 +22,16 @@ fn a_transcript_has_the_answers_and_then_the_values(rt: HostRuntime) -> Result<(
                 retval: -3,
             },
         },
-        Told::Turned {
+        TranscriptLine::Turned {
             line: 5,
-            step: xa_worker::Step::Empty,
+            step: xa_worker::WorkerStep::Empty,
         },
-        Told::Answered {
+        TranscriptLine::Answered {
             line: 100_000,
             thread: 8,
             answer: Answer::Called(-6),
         },
-        Told::Ended {
+        TranscriptLine::Ended {
             thread: 8,
             handle: 32,
             retval: 103,
@@ -61,7 +61,7 @@ fn a_transcript_has_the_answers_and_then_the_values(rt: HostRuntime) -> Result<(
 // The text of a line that tells this.
 fn text_of(alloc: Global, answer: Answer) -> Result<Vec<u8>, Fail> {
     let mut transcript = Transcript::with_capacity(alloc, 1)?;
-    transcript.tell(Told::Answered {
+    transcript.tell(TranscriptLine::Answered {
         line: 4,
         thread: 2,
         answer,
@@ -104,13 +104,24 @@ fn a_death_shows_what_was_known_by_then(rt: HostRuntime) -> Result<(), Fail> {
             endings.push(Ending::InDoubt)?;
             endings.push(Ending::RolledBack)?;
         }
-        let known = Done {
-            commit: false,
-            logged: false,
-            votes,
-            endings,
+        let known = match at {
+            Death::Preparing(_) | Death::Prepared => LastKnown::Votes(votes),
+            Death::Decided | Death::Telling(_) => LastKnown::Decided {
+                decision: Decision {
+                    commit: false,
+                    logged: false,
+                },
+                votes,
+            },
+            Death::Told => LastKnown::Told(Done {
+                commit: false,
+                logged: false,
+                votes,
+                endings,
+            }),
         };
-        let text = text_of(rt.alloc(), Answer::Died { at, known })?;
+        let died = CommitOutcome::Died { at, known };
+        let text = text_of(rt.alloc(), Answer::Commit(died))?;
         assert_eq!(rt; text.as_slice(), want);
     }
     Ok(())
@@ -121,7 +132,7 @@ fn an_undecided_commit_shows_its_votes(rt: HostRuntime) -> Result<(), Fail> {
     let mut votes = Vec::new(rt.alloc());
     votes.push(Code::Done)?;
     votes.push(Code::RdOnly)?;
-    let text = text_of(rt.alloc(), Answer::Undecided(votes))?;
+    let text = text_of(rt.alloc(), Answer::Commit(CommitOutcome::Undecided(votes)))?;
     assert_eq!(rt;
         text.as_slice(),
         b"4 2 undecided vote:0 vote:3\n".as_slice()

@@ -1,7 +1,7 @@
-//! Eight threads at eight managers: `test_soak SEED ACTIONS`. Each thread does so many things at random, and once all is
-//! settled the journals are replayed by the sequential tables (test_replay). It writes `agrees` where each code and each
-//! value is the replay's, with status 0, and to standard error what the threads did. Where threads did a hundred things
-//! or more, each manager was opened by one; else the status is 5.
+//! Eight threads at eight managers: `test_soak SEED ACTIONS`. Each thread does so many things at random, and once all
+//! is settled the journals are replayed by the sequential tables (test_replay). It writes `agrees` where each code and
+//! each value is the replay's, with status 0, and to standard error what the threads did. Where threads did a hundred
+//! things or more, each manager was opened by one; else the status is 5.
 #![tactic(auto)]
 
 ghost use Rattle.std.specs.Prelude.{◌≡◌, true, IfSome, Some};
@@ -19,9 +19,9 @@ use std::process::ExitCode;
 use std::rt::Env;
 use std::sync::Wait;
 use std::thread::Threads;
+use test_replay::{agrees, was_opened};
 use visitor::{NAMES, VALUE, Visitor};
 use xa_crew::run_clients;
-use test_replay::{agrees, was_opened};
 use xa_switch::{Plan, Settled};
 use xa_words::Key;
 use xa_worker::Free;

@@ -12,7 +12,7 @@ use xa_crew::Client;
 use xa_crew::laws::idles_go_on;
 use xa_desk::laws::desks_go_on;
 use xa_desk::{Desk, Idle};
-use xa_driver::{Branch, commit_all, may_commit};
+use xa_driver::{Branch, commit, may_commit};
 use xa_log::MemoryLog;
 use xa_words::{
     Call, Code, Delta, Key, TMASYNC, TMFAIL, TMJOIN, TMMULTIPLE, TMNOFLAGS, TMNOWAIT, TMONEPHASE,
@@ -214,7 +214,7 @@ fn work_on<R: Wait, I: Idle>(
 }
 
 // Whether the branches were committed. None where they may not be.
-fn commit<R: Wait, I: Idle>(
+fn try_commit<R: Wait, I: Idle>(
     rt: &R,
     alloc: Global,
     desk: &mut Desk,
@@ -231,10 +231,8 @@ fn commit<R: Wait, I: Idle>(
     if !may_commit(desk, log, branches) {
         return None;
     }
-    match commit_all(rt, alloc, desk, log, branches, idle) {
-        Ok(done) => Some(done.commit),
-        Err(_) => None,
-    }
+    let outcome = commit(rt, alloc, desk, log, branches, None, idle).ok()?;
+    Some(outcome.is_to_commit())
 }
 
 // A transaction over three managers: whether it was committed. None where it may not be.
@@ -263,7 +261,7 @@ fn transact<R: Wait, I: Idle>(
     work_on(rt, desk, random, &branches[0], idle);
     work_on(rt, desk, random, &branches[1], idle);
     work_on(rt, desk, random, &branches[2], idle);
-    commit(rt, alloc, desk, log, branches.as_slice(), idle)
+    try_commit(rt, alloc, desk, log, branches.as_slice(), idle)
 }
 
 // A transaction, with what it came to. Before it some of the handles are given back.

@@ -6,7 +6,7 @@ use std::process::Abort;
 use std::sync::Wait;
 use xa_store::{Store, settle_or_stop};
 use xa_store_memory::MemoryStore;
-use xa_watch::{Run, Stopped, Watch, Watched, run_watched};
+use xa_watch::{Stopped, Watch, Watched, WatchedRun, run_watched};
 
 // Settles so many times, and comes to the store.
 #[derive(Drop)]
@@ -16,7 +16,7 @@ struct Settles {
     times: u32,
 }
 
-impl<R: Wait> Run<R, MemoryStore> for Settles {
+impl<R: Wait> WatchedRun<R, MemoryStore> for Settles {
     ghost can_run = { λ _. Unit {0} };
 
     ghost comes_to = { λ _ _. Unit {0} };

@@ -17,12 +17,35 @@ pub(crate) struct Bytes {
     pub(crate) db: Vec<u8>,
 }
 
+// Turns bits of a byte, where there is one at this place.
+fn turn(bytes: &mut Vec<u8>, at: usize, bits: u8) {
+    if at < bytes.len() {
+        bytes[at] ^= bits;
+    }
+}
+
 impl Bytes {
     /// Those of files that aren't there yet.
     pub(crate) fn none(alloc: Global) -> Bytes {
         Bytes {
             log: Vec::new(alloc),
             db: Vec::new(alloc),
+        }
+    }
+
+    /// Those of one file.
+    pub(crate) fn of(&self, side: Side) -> &[u8] {
+        match side {
+            Side::Log => &self.log,
+            Side::Database => &self.db,
+        }
+    }
+
+    /// Turns bits of a byte of one file, where it has a byte at this place.
+    pub(crate) fn turn(&mut self, side: Side, at: usize, bits: u8) {
+        match side {
+            Side::Log => turn(&mut self.log, at, bits),
+            Side::Database => turn(&mut self.db, at, bits),
         }
     }
 }
@@ -86,11 +109,14 @@ impl Choice {
     /// What the disk has kept.
     pub(crate) const KEPT: Choice = Choice { log: 0, db: 0 };
 
+    /// What was written, kept or not.
+    pub(crate) const WRITTEN: Choice = Choice { log: 1, db: 1 };
+
     /// The choice of the image with this number: the first four have no mixtures, and the others are by chance.
     pub(crate) fn of(image: u32, random: &mut Random) -> Choice {
         match image {
             0 => Choice::KEPT,
-            1 => Choice { log: 1, db: 1 },
+            1 => Choice::WRITTEN,
             2 => Choice { log: 0, db: 1 },
             3 => Choice { log: 1, db: 0 },
             _ => Choice {

@@ -8,7 +8,7 @@ use crate::served::Served;
 use std::alloc::Global;
 use std::fmt;
 use xa_disk::Tear;
-use xa_store_sqlite::OpenFault;
+use xa_store_sqlite::StoreOpenFault;
 
 const TEARS: [Tear; 4] = [
     Tear::Nothing,
@@ -124,9 +124,8 @@ impl<'a> Trial<'a> {
         let mut tapes = Tapes::of(self.alloc, &bytes, &Failure::NONE)?;
         match Served::open(self.alloc, &mut tapes, &self.names.others()) {
             Ok(served) => self.holds(run, &served),
-            Err(OpenFault::NotADatabase) if self.part.is_making() && are_unfinished(&bytes) => Ok(
-                false,
-            ),
+            Err(StoreOpenFault::NotADatabase) if self.part.is_making() && are_unfinished(&bytes) =>
+                Ok(false),
             Err(fault) => Err(Fault::Unopened(fault)),
         }
     }

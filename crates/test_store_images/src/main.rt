@@ -5,10 +5,18 @@
 //! and sync of each file fails in turn, torn in each of four ways. Then images of the files are opened, by chance but
 //! for the first four, as the seed has it. Each has to have what the last settle that succeeded has left, or the one
 //! under way, as the manager had it that was told the same requests. A making may also leave nothing. IMAGES is how
-//! many there are of each failure, 16 by default. With EVERY only the calls fail whose number it divides.
+//! many there are of each failure, 16 by default.
 //!
-//! It writes a line for each part, how many images of makings can't be opened, and at last how many are right, with
-//! status 0. Where one isn't, the last line says which, with status 1. The status is 2 where a word is no number.
+//! Then each byte is turned, of a database file to which the log was copied, of one beside a log with settles after the
+//! copy, and of that log. Files with a byte turned are read as they were, or refused as damaged with the database
+//! file as it was. With a byte of the log turned they may also have what an earlier settle has left, as where a write
+//! of the log was torn.
+//!
+//! With EVERY only the calls fail whose number it divides, and only the bytes are turned whose place it divides.
+//!
+//! It writes a line for each part and each file, how many images of makings can't be opened, and at last how many are
+//! right, with status 0. Where one isn't, the last line says which, with status 1. The status is 2 where a word is no
+//! number.
 #![tactic(auto)]
 
 mod fault;
@@ -22,6 +30,7 @@ mod random;
 mod runs;
 mod script;
 mod served;
+mod turned;
 
 use fault::Fault;
 use files::{Failure, Side};
@@ -35,6 +44,7 @@ use std::env;
 use std::io::{self, Write};
 use std::process::ExitCode;
 use std::rt::Env;
+use turned::{Turned, database_alone, database_beside, log_beside};
 
 // How many images of each failure are opened by default.
 const USUAL_IMAGES: u32 = 16;
@@ -138,6 +148,55 @@ fn tell_parts<W: Write>(
     )
 }
 
+// Turns the bytes of a file, and tells what is found. Whether that is right.
+fn tell_turns<W: Write>(
+    alloc: Global,
+    names: &Names,
+    turned: &mut Turned,
+    every: u32,
+    out: &mut W,
+) -> io::Result<bool> {
+    match turned.turn_all(alloc, names, every as usize) {
+        Ok(turns) => {
+            let (name, bytes) = (turned.name, turns.bytes);
+            writeln!(out, "turned {bytes} bytes of the {name} in 2 ways: {turns}")?;
+            Ok(true)
+        }
+        Err(missed) => {
+            writeln!(out, "{}: {missed}", turned.name)?;
+            Ok(false)
+        }
+    }
+}
+
+// The same of files that may not be made.
+fn tell_made<W: Write>(
+    alloc: Global,
+    names: &Names,
+    turned: Result<Turned, Fault>,
+    every: u32,
+    out: &mut W,
+) -> io::Result<bool> {
+    match turned {
+        Ok(mut turned) => tell_turns(alloc, names, &mut turned, every, out),
+        Err(fault) => refuse(out, fault),
+    }
+}
+
+// Turns the bytes of the files, until a turn isn't seen. Whether all are.
+fn tell_turned<W: Write>(
+    alloc: Global,
+    names: &Names,
+    every: u32,
+    out: &mut W,
+) -> io::Result<bool> {
+    Ok(
+        tell_made(alloc, names, database_alone(alloc, names), every, out)?
+            && tell_made(alloc, names, database_beside(alloc, names), every, out)?
+            && tell_made(alloc, names, log_beside(alloc, names), every, out)?,
+    )
+}
+
 // Opens all images, and tells how many are right. Whether all are.
 fn tell<W: Write>(
     alloc: Global,
@@ -146,7 +205,9 @@ fn tell<W: Write>(
     out: &mut W,
 ) -> io::Result<bool> {
     let mut counts = Counts::NONE;
-    if !tell_parts(alloc, names, &mut choosing, &mut counts, out)? {
+    if !tell_parts(alloc, names, &mut choosing, &mut counts, out)?
+        || !tell_turned(alloc, names, choosing.every, out)?
+    {
         return Ok(false);
     }
     writeln!(out, "{} makings that can't be opened", counts.unfinished)?;

@@ -30,23 +30,37 @@ const BEGINNING: [Session; 1] = [Session {
     copies: false,
 }];
 
-const COPIES: [Session; 3] = [
-    Session {
-        first: 5,
-        end: 7,
-        copies: true,
-    },
-    Session {
-        first: 7,
-        end: 10,
-        copies: true,
-    },
-    Session {
-        first: 10,
-        end: BATCHES,
-        copies: false,
-    },
-];
+const COPY_FIRST: Session = Session {
+    first: 5,
+    end: 7,
+    copies: true,
+};
+
+const COPY_NEXT: Session = Session {
+    first: 7,
+    end: 10,
+    copies: true,
+};
+
+const SETTLE_LAST: Session = Session {
+    first: 10,
+    end: BATCHES,
+    copies: false,
+};
+
+const COPIES: [Session; 3] = [COPY_FIRST, COPY_NEXT, SETTLE_LAST];
+
+const COPIES_ALONE: [Session; 2] = [COPY_FIRST, COPY_NEXT];
+
+/// The settles after the copies.
+pub(crate) const SETTLES_LATER: [Session; 1] = [SETTLE_LAST];
+
+/// The first of them alone.
+pub(crate) const SETTLE: [Session; 1] = [Session {
+    first: 10,
+    end: 11,
+    copies: false,
+}];
 
 const REOPENINGS: [Session; 3] = [
     Session {
@@ -131,4 +145,24 @@ pub(crate) fn copying(alloc: Global, names: &Names) -> Result<Part, Fault> {
 /// Settles after the files were opened again.
 pub(crate) fn reopening(alloc: Global, names: &Names) -> Result<Part, Fault> {
     later(alloc, names, "reopenings", &REOPENINGS)
+}
+
+/// What comes after the copies, on the database file alone: the log is gone, as it was copied.
+pub(crate) fn copied(
+    alloc: Global,
+    names: &Names,
+    sessions: &'static [Session],
+) -> Result<Part, Fault> {
+    let copies = later(alloc, names, "", &COPIES_ALONE)?;
+    let run = copies.run(alloc, names, &Failure::NONE)?;
+    let Bytes { log: _, db } = run.tapes.image(alloc, &Choice::KEPT)?;
+    Ok(Part {
+        name: "",
+        sessions,
+        before: Bytes {
+            log: Vec::new(alloc),
+            db,
+        },
+        left: run.left,
+    })
 }

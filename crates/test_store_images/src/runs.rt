@@ -6,7 +6,7 @@ use crate::names::Names;
 use crate::script::serve;
 use crate::served::Served;
 use std::alloc::Global;
-use xa_store_sqlite::OpenFault;
+use xa_store_sqlite::StoreOpenFault;
 
 /// What is done from an opening of the files on.
 #[derive(Clone, Copy)]
@@ -92,7 +92,7 @@ fn run_session(
 ) -> Result<bool, Fault> {
     match Served::open(alloc, tapes, &names.accounts()) {
         Ok(served) => serve_session(alloc, names, session, served, left),
-        Err(OpenFault::Failed) => Ok(false),
+        Err(StoreOpenFault::Failed) => Ok(false),
         Err(fault) => Err(Fault::Unopened(fault)),
     }
 }
@@ -135,6 +135,17 @@ impl Part {
     /// Whether there are no files before it.
     pub(crate) fn is_making(&self) -> bool {
         self.before.db.is_empty()
+    }
+
+    /// The files before it.
+    pub(crate) fn into_bytes(self) -> Bytes {
+        let Part {
+            name: _,
+            sessions: _,
+            before,
+            left: _,
+        } = self;
+        before
     }
 
     /// Serves the sessions, of which a call fails, or none.

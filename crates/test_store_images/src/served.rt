@@ -11,7 +11,7 @@ use sqlite_disk::Disk;
 use sqlite_store::FileStore;
 use std::alloc::Global;
 use xa_store::Store;
-use xa_store_sqlite::{OpenFault, SqliteStore, open};
+use xa_store_sqlite::{SqliteStore, StoreOpenFault, open};
 use xa_tables::Manager;
 use xa_words::{Code, Delta, EndHow, Key, Op, Request, StartHow, Xid};
 
@@ -43,9 +43,9 @@ impl<'a> Served<'a> {
         alloc: Global,
         tapes: &'a mut Tapes,
         accounts: &[(Key, u64)],
-    ) -> Result<Served<'a>, OpenFault> {
+    ) -> Result<Served<'a>, StoreOpenFault> {
         let Some(files) = tapes.disks(alloc) else {
-            return Err(OpenFault::Failed);
+            return Err(StoreOpenFault::Failed);
         };
         let (manager, store) = open(alloc, files, NUMBER, accounts, THREADS, ROOM)?;
         Ok(Served { manager, store })

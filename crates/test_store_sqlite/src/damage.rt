@@ -5,7 +5,7 @@ use crate::served::{Served, branch};
 use sqlite_disk::Files;
 use std::alloc::Global;
 use std::process::Abort;
-use xa_store_sqlite::OpenFault;
+use xa_store_sqlite::StoreOpenFault;
 use xa_tables::{Manager, State};
 use xa_words::Op;
 
@@ -36,7 +36,7 @@ fn checkpointed(rt: &impl Abort, alloc: Global) -> Bytes {
 }
 
 // What is opened of files: the value of a, the branch, and how many there are; or why not.
-fn opened(rt: &impl Abort, alloc: Global, bytes: &Bytes) -> Result<Manager, OpenFault> {
+fn opened(rt: &impl Abort, alloc: Global, bytes: &Bytes) -> Result<Manager, StoreOpenFault> {
     match found_in(alloc, tapes_of(rt, alloc, bytes, NONE), &[]) {
         Ok((manager, _)) => Ok(manager),
         Err(fault) => Err(fault),
@@ -51,37 +51,11 @@ fn is_in_doubt(rt: &impl Abort, alloc: Global, manager: &Manager) -> bool {
         && manager.state(&branch(rt, b"x")) == Some(State::Prepared)
 }
 
-fn is_of_damage(fault: OpenFault) -> bool {
+fn is_of_damage(fault: StoreOpenFault) -> bool {
     matches!(
         fault,
-        OpenFault::NotADatabase | OpenFault::OtherTables | OpenFault::Damaged
+        StoreOpenFault::NotADatabase | StoreOpenFault::OtherTables | StoreOpenFault::Damaged
     )
-}
-
-// Of the 20,480 bytes of five pages 195 are turned, one at a time: every third of the file's header, and every 127th of
-// the rest, so that headers of pages, cells, free space and sums are among them. An opening takes a quarter of a second
-// with checks, so all bytes would take over an hour.
-#[test]
-fn a_byte_of_the_database_file_is_found_turned(rt: HostRuntime) {
-    let alloc = rt.alloc();
-    let mut bytes = checkpointed(&rt, alloc);
-    let mut refused: u32 = 0;
-    let mut at = 0;
-    while at < bytes.db.len() {
-        bytes.db[at] ^= 0x20;
-        match opened(&rt, alloc, &bytes) {
-            Ok(_) => panic!(rt; "byte {at}"),
-            Err(fault) => assert!(rt; is_of_damage(fault)),
-        }
-        bytes.db[at] ^= 0x20;
-        refused += 1;
-        at += if at < 102 { 3 } else { 127 };
-    }
-    assert!(rt; bytes.db.len() == 20_480 && refused == 195);
-    match opened(&rt, alloc, &bytes) {
-        Ok(manager) => assert!(rt; is_in_doubt(&rt, alloc, &manager)),
-        Err(_) => panic!(rt; "no store"),
-    }
 }
 
 // A byte of the log may hide the commits from there on, as a write that was torn: SQLite can't tell them apart. What is
@@ -119,7 +93,7 @@ fn another_number_is_refused(rt: HostRuntime) {
     };
     match xa_store_sqlite::open(alloc, files, 78, &[], 2, 64) {
         Ok(_) => panic!(rt; "opened"),
-        Err(fault) => assert!(rt; fault == OpenFault::OtherNumber),
+        Err(fault) => assert!(rt; fault == StoreOpenFault::OtherNumber),
     }
 }
 
@@ -132,6 +106,6 @@ fn what_is_no_database_is_refused(rt: HostRuntime) {
         .expect(&rt, "memory");
     match opened(&rt, alloc, &bytes) {
         Ok(_) => panic!(rt; "opened"),
-        Err(fault) => assert!(rt; fault == OpenFault::NotADatabase),
+        Err(fault) => assert!(rt; fault == StoreOpenFault::NotADatabase),
     }
 }

@@ -5,7 +5,7 @@ use sqlite_store::FileStore;
 use std::alloc::Global;
 use std::process::Abort;
 use xa_disk::{Backing, Tape, Tear, WriteThrough};
-use xa_store_sqlite::{OpenFault, SqliteStore, open};
+use xa_store_sqlite::{SqliteStore, StoreOpenFault, open};
 use xa_tables::Manager;
 use xa_words::Key;
 
@@ -102,10 +102,10 @@ pub(crate) fn found_in(
     alloc: Global,
     tapes: Tapes,
     accounts: &[(Key, u64)],
-) -> Result<(Manager, SqliteStore<Tape>), OpenFault> {
+) -> Result<(Manager, SqliteStore<Tape>), StoreOpenFault> {
     let Tapes { log, db } = tapes;
     match disks_of(alloc, log, db) {
         Some(files) => open(alloc, files, NUMBER, accounts, 2, 600),
-        None => Err(OpenFault::Failed),
+        None => Err(StoreOpenFault::Failed),
     }
 }

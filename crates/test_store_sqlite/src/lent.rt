@@ -3,7 +3,7 @@
 use crate::files::{Tapes, disks_of};
 use std::alloc::Global;
 use xa_disk::{Backing, DeviceFault, ReadFault, Tape};
-use xa_store_sqlite::{OpenFault, open};
+use xa_store_sqlite::{StoreOpenFault, open};
 use xa_tables::Manager;
 use xa_words::Key;
 
@@ -79,7 +79,7 @@ pub(crate) fn opened(
     alloc: Global,
     tapes: &mut Tapes,
     asked: Asked<'_>,
-) -> Result<Manager, OpenFault> {
+) -> Result<Manager, StoreOpenFault> {
     let log = Lent {
         tape: &mut tapes.log,
         calls: asked.calls.0,
@@ -89,7 +89,7 @@ pub(crate) fn opened(
         calls: asked.calls.1,
     };
     let Some(files) = disks_of(alloc, log, db) else {
-        return Err(OpenFault::Failed);
+        return Err(StoreOpenFault::Failed);
     };
     match open(alloc, files, asked.number, asked.accounts, 2, 600) {
         Ok((manager, _)) => Ok(manager),

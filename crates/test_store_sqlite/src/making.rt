@@ -6,7 +6,7 @@ use crate::served::key;
 use std::alloc::Global;
 use std::process::Abort;
 use xa_disk::Tear;
-use xa_store_sqlite::OpenFault;
+use xa_store_sqlite::StoreOpenFault;
 use xa_tables::Manager;
 
 const TEARS: [Tear; 4] = [
@@ -17,7 +17,12 @@ const TEARS: [Tear; 4] = [
 ];
 
 // A making with `a` at 100 and `b` at 50, on a disk that is full after so many calls of the log and the database file.
-fn make(rt: &impl Abort, alloc: Global, tapes: &mut Tapes, calls: (u32, u32)) -> Option<OpenFault> {
+fn make(
+    rt: &impl Abort,
+    alloc: Global,
+    tapes: &mut Tapes,
+    calls: (u32, u32),
+) -> Option<StoreOpenFault> {
     let asked = Asked {
         number: NUMBER,
         accounts: &[(key(rt, b"a"), 100), (key(rt, b"b"), 50)],
@@ -105,7 +110,7 @@ impl Counts {
 fn count_images(rt: &impl Abort, alloc: Global, failure: Failure, first: u32, counts: &mut Counts) {
     let mut tapes = tapes_of(rt, alloc, &nothing(alloc), failure);
     let fault = make(rt, alloc, &mut tapes, ENDLESS);
-    assert!(rt; fault == Some(OpenFault::Failed));
+    assert!(rt; fault == Some(StoreOpenFault::Failed));
     for turn in first..first + 2 {
         counts.add(found(rt, alloc, &tapes, choice_of(turn % 16)));
     }
@@ -183,9 +188,9 @@ fn a_making_without_room_says_so(rt: HostRuntime) {
         match make(&rt, alloc, &mut tapes, full_at(call, of_log)) {
             // After this call there are only syncs.
             None => continue,
-            Some(OpenFault::Failed) => failed += 1,
+            Some(StoreOpenFault::Failed) => failed += 1,
             Some(fault) => {
-                assert!(rt; fault == OpenFault::NoRoom);
+                assert!(rt; fault == StoreOpenFault::NoRoom);
                 refused += 1;
             }
         }

@@ -7,14 +7,19 @@ use crate::served::key;
 use sqlite_value::value::ValueRef;
 use std::alloc::Global;
 use std::process::Abort;
-use xa_store_sqlite::{OpenFault, RowFault, Table};
+use xa_store_sqlite::{RowFault, StoreOpenFault, Table};
 use xa_tables::RestoreFault;
 
 const NULL: ValueRef<'static> = ValueRef::Null;
 
 // Why an opening with a number refuses files, if it does. They are as they were, for a crash too; but an empty log is
 // begun, with 41 bytes.
-fn refusal_by(rt: &impl Abort, alloc: Global, bytes: &Bytes, number: i64) -> Option<OpenFault> {
+fn refusal_by(
+    rt: &impl Abort,
+    alloc: Global,
+    bytes: &Bytes,
+    number: i64,
+) -> Option<StoreOpenFault> {
     let mut tapes = tapes_of(rt, alloc, bytes, NONE);
     let asked = Asked {
         number,
@@ -33,7 +38,7 @@ fn refusal_by(rt: &impl Abort, alloc: Global, bytes: &Bytes, number: i64) -> Opt
     Some(fault)
 }
 
-fn refusal(rt: &impl Abort, alloc: Global, bytes: &Bytes) -> Option<OpenFault> {
+fn refusal(rt: &impl Abort, alloc: Global, bytes: &Bytes) -> Option<StoreOpenFault> {
     refusal_by(rt, alloc, bytes, NUMBER)
 }
 
@@ -63,14 +68,14 @@ impl Full {
         table: u32,
         slot: u32,
         cells: &[ValueRef<'_>],
-    ) -> Option<OpenFault> {
+    ) -> Option<StoreOpenFault> {
         let mut forged = self.forged(rt);
         forged.set(rt, table, slot, cells);
         refusal(rt, self.alloc, &forged.kept(rt))
     }
 
     // Why it is refused, where a slot has nothing.
-    fn without(&self, rt: &impl Abort, table: u32, slot: u32) -> Option<OpenFault> {
+    fn without(&self, rt: &impl Abort, table: u32, slot: u32) -> Option<StoreOpenFault> {
         let mut forged = self.forged(rt);
         forged.clear(rt, table, slot);
         refusal(rt, self.alloc, &forged.kept(rt))
@@ -83,7 +88,7 @@ impl Full {
         slot: u32,
         name: &[u8],
         value: i64,
-    ) -> Option<OpenFault> {
+    ) -> Option<StoreOpenFault> {
         let cells = [NULL, ValueRef::Text(name), ValueRef::Int(value)];
         self.with(rt, ACCOUNTS, slot, &cells)
     }
@@ -95,7 +100,7 @@ impl Full {
         slot: u32,
         branch: i64,
         delta: i64,
-    ) -> Option<OpenFault> {
+    ) -> Option<StoreOpenFault> {
         let cells = [NULL, ValueRef::Int(branch), ValueRef::Int(delta)];
         self.with(rt, CHANGES, slot, &cells)
     }
@@ -103,8 +108,8 @@ impl Full {
 
 // ---- accounts
 
-fn bad_account(slot: u32, fault: RowFault) -> Option<OpenFault> {
-    Some(OpenFault::BadRow(Table::Accounts, slot, fault))
+fn bad_account(slot: u32, fault: RowFault) -> Option<StoreOpenFault> {
+    Some(StoreOpenFault::BadRow(Table::Accounts, slot, fault))
 }
 
 #[test]
@@ -175,8 +180,8 @@ fn branch_cells<'a>(format: i64, gtrid: &'a [u8], bqual: &'a [u8]) -> [ValueRef<
     ]
 }
 
-fn bad_branch(slot: u32, fault: RowFault) -> Option<OpenFault> {
-    Some(OpenFault::BadRow(Table::Branches, slot, fault))
+fn bad_branch(slot: u32, fault: RowFault) -> Option<StoreOpenFault> {
+    Some(StoreOpenFault::BadRow(Table::Branches, slot, fault))
 }
 
 #[test]
@@ -245,8 +250,8 @@ fn a_branch_in_a_state_that_no_opening_leaves_is_refused(rt: HostRuntime) {
 
 // ---- changes
 
-fn bad_change(slot: u32, fault: RowFault) -> Option<OpenFault> {
-    Some(OpenFault::BadRow(Table::Changes, slot, fault))
+fn bad_change(slot: u32, fault: RowFault) -> Option<StoreOpenFault> {
+    Some(StoreOpenFault::BadRow(Table::Changes, slot, fault))
 }
 
 #[test]
@@ -303,7 +308,7 @@ fn a_row_of_the_store_with_another_form_is_refused(rt: HostRuntime) {
     ];
     for cells in rows {
         let refusal = full.with(&rt, STORE, 0, cells);
-        assert!(rt; refusal == Some(OpenFault::BadRow(Table::Store, 0, RowFault::Form)));
+        assert!(rt; refusal == Some(StoreOpenFault::BadRow(Table::Store, 0, RowFault::Form)));
     }
 }
 
@@ -314,7 +319,7 @@ fn another_version_is_refused(rt: HostRuntime) {
     for (version, number) in [(2, NUMBER), (0, NUMBER), (-1, NUMBER), (2, 78)] {
         let cells = [NULL, ValueRef::Int(version), ValueRef::Int(number)];
         let refusal = full.with(&rt, STORE, 0, &cells);
-        assert!(rt; refusal == Some(OpenFault::OtherVersion));
+        assert!(rt; refusal == Some(StoreOpenFault::OtherVersion));
     }
 }
 
@@ -324,7 +329,7 @@ fn each_other_number_is_refused(rt: HostRuntime) {
     let bytes = full_bytes(&rt, alloc);
     for number in [78, -77, 0, i64::MIN, i64::MAX] {
         let refusal = refusal_by(&rt, alloc, &bytes, number);
-        assert!(rt; refusal == Some(OpenFault::OtherNumber));
+        assert!(rt; refusal == Some(StoreOpenFault::OtherNumber));
     }
     assert!(rt; refusal_by(&rt, alloc, &bytes, NUMBER).is_none());
 }
@@ -346,7 +351,7 @@ fn rows_with_none_of_the_store_are_refused(rt: HostRuntime) {
             }
         }
         let refusal = refusal(&rt, alloc, &forged.kept(&rt));
-        assert!(rt; refusal == Some(OpenFault::NotAStore));
+        assert!(rt; refusal == Some(StoreOpenFault::NotAStore));
     }
 }
 
@@ -357,13 +362,13 @@ fn a_table_with_too_many_rows_is_refused(rt: HostRuntime) {
     let full = Full::new(&rt, rt.alloc());
     let two = [NULL, ValueRef::Int(1), ValueRef::Int(1)];
     let refusal = full.with_account(&rt, 256, b"c", 1);
-    assert!(rt; refusal == Some(OpenFault::TooMany(Table::Accounts)));
+    assert!(rt; refusal == Some(StoreOpenFault::TooMany(Table::Accounts)));
     let refusal = full.with(&rt, BRANCHES, 65_536, &branch_cells(1, b"w", b"1"));
-    assert!(rt; refusal == Some(OpenFault::TooMany(Table::Branches)));
+    assert!(rt; refusal == Some(StoreOpenFault::TooMany(Table::Branches)));
     let refusal = full.with(&rt, CHANGES, 2, &two);
-    assert!(rt; refusal == Some(OpenFault::TooMany(Table::Changes)));
+    assert!(rt; refusal == Some(StoreOpenFault::TooMany(Table::Changes)));
     let refusal = full.with(&rt, STORE, 1, &two);
-    assert!(rt; refusal == Some(OpenFault::TooMany(Table::Store)));
+    assert!(rt; refusal == Some(StoreOpenFault::TooMany(Table::Store)));
 }
 
 #[test]
@@ -380,7 +385,7 @@ fn a_row_before_the_first_slot_is_refused(rt: HostRuntime) {
             let mut forged = full.forged(&rt);
             forged.put(&rt, number, rowid, [NULL; 3]);
             let refusal = refusal(&rt, alloc, &forged.kept(&rt));
-            assert!(rt; refusal == Some(OpenFault::TooMany(table)));
+            assert!(rt; refusal == Some(StoreOpenFault::TooMany(table)));
         }
     }
 }
@@ -391,14 +396,14 @@ fn branches_need_room_for_those_to_come(rt: HostRuntime) {
     let full = Full::new(&rt, rt.alloc());
     let cells = branch_cells(1, b"w", b"1");
     let refusal = full.with(&rt, BRANCHES, 65_236, &cells);
-    assert!(rt; refusal == Some(OpenFault::TooMany(Table::Branches)));
+    assert!(rt; refusal == Some(StoreOpenFault::TooMany(Table::Branches)));
     assert!(rt; full.with(&rt, BRANCHES, 65_235, &cells).is_none());
 }
 
 // ---- rows that make no manager
 
-fn not_restored(fault: RestoreFault) -> Option<OpenFault> {
-    Some(OpenFault::NotRestored(fault))
+fn not_restored(fault: RestoreFault) -> Option<StoreOpenFault> {
+    Some(StoreOpenFault::NotRestored(fault))
 }
 
 #[test]
@@ -450,7 +455,7 @@ fn a_database_with_other_tables_is_refused(rt: HostRuntime) {
         [more].as_slice(),
     ] {
         let refusal = refusal(&rt, alloc, &made_of(&rt, alloc, texts));
-        assert!(rt; refusal == Some(OpenFault::OtherTables));
+        assert!(rt; refusal == Some(StoreOpenFault::OtherTables));
     }
 }
 

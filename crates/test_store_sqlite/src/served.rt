@@ -5,7 +5,7 @@ use std::alloc::Global;
 use std::process::Abort;
 use xa_disk::Tape;
 use xa_store::Store;
-use xa_store_sqlite::{OpenFault, SqliteStore};
+use xa_store_sqlite::{SqliteStore, StoreOpenFault};
 use xa_tables::Manager;
 use xa_words::{Code, Delta, EndHow, Key, Op, Request, StartHow, Xid};
 
@@ -38,7 +38,7 @@ impl Served {
         alloc: Global,
         tapes: Tapes,
         accounts: &[(Key, u64)],
-    ) -> Result<Served, OpenFault> {
+    ) -> Result<Served, StoreOpenFault> {
         match found_in(alloc, tapes, accounts) {
             Ok((manager, store)) => Ok(Served { manager, store }),
             Err(fault) => Err(fault),
@@ -61,7 +61,7 @@ impl Served {
         alloc: Global,
         bytes: &Bytes,
         failure: Failure,
-    ) -> Result<Served, OpenFault> {
+    ) -> Result<Served, StoreOpenFault> {
         Served::open(alloc, tapes_of(rt, alloc, bytes, failure), &[])
     }
 

@@ -3,7 +3,7 @@
 use std::fmt;
 use std::process::Abort;
 use xa_disk::FileFault;
-use xa_store_sqlite::{OpenFault, RowFault, Table};
+use xa_store_sqlite::{RowFault, StoreOpenFault, Table};
 use xa_tables::RestoreFault;
 
 fn reads(rt: &(impl Abort + AllocGlobal), fault: impl fmt::Display + Drop, wanted: &str) -> bool {
@@ -17,28 +17,28 @@ fn each_fault_has_a_text(rt: HostRuntime) {
     assert!(rt;
         reads(
             &rt,
-            OpenFault::OtherVersion,
+            StoreOpenFault::OtherVersion,
             "it has another version, as of a newer program"
         )
     );
     assert!(rt;
         reads(
             &rt,
-            OpenFault::NotRestored(RestoreFault::BranchTwice),
+            StoreOpenFault::NotRestored(RestoreFault::BranchTwice),
             "its rows make no manager: a branch stands twice"
         )
     );
     assert!(rt;
         reads(
             &rt,
-            OpenFault::TooMany(Table::Changes),
+            StoreOpenFault::TooMany(Table::Changes),
             "the table changes has too many rows, or one with an id below 1"
         )
     );
     assert!(rt;
         reads(
             &rt,
-            OpenFault::BadRow(Table::Branches, 2, RowFault::Gap),
+            StoreOpenFault::BadRow(Table::Branches, 2, RowFault::Gap),
             "the table branches has a row with the id 3 that no store writes: a row before it is missing"
         )
     );

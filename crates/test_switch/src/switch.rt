@@ -7,9 +7,9 @@ mod threads;
 use std::alloc::Global;
 use std::process::Abort;
 use std::sync::Wait;
+use test_support::one;
 use xa_desk::Desk;
 use xa_switch::{OpenFault, Plan, open_switch};
-use test_support::one;
 use xa_words::Key;
 use xa_worker::Worker;
 

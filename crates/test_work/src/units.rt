@@ -3,7 +3,8 @@ use crate::mover::{Move, plan, run};
 use std::alloc::Global;
 use std::process::Abort;
 use std::sync::Wait;
-use xa_log::{DecisionRecords, LosingLog, MemoryLog};
+use xa_driver::CommitOutcome;
+use xa_log::{DecisionRecords, MemoryLog, TrialLog};
 use xa_switch::Plan;
 use xa_words::{Death, Xid};
 use xa_work::{Refusal, WorkOutcome};
@@ -32,7 +33,12 @@ fn is_given_up_and_made<R: Wait + Abort>(rt: &R, alloc: Global, plan: &Plan, req
     let moved = run(rt, alloc, plan, MemoryLog::new(alloc), &moves);
     let outcomes = &moved.outcomes;
     assert!(rt; matches!(&outcomes[0], WorkOutcome::Refused(Refusal::GivenUp)));
-    assert!(rt; matches!(&outcomes[1], WorkOutcome::Decided(done) if done.commit && done.logged));
+    assert!(rt;
+        matches!(
+        &outcomes[1],
+        WorkOutcome::Commit(CommitOutcome::Decided(done)) if done.commit && done.logged
+    )
+    );
     assert!(rt; is_not_begun(&outcomes[2]));
     assert_eq!(rt; told(&outcomes[0]), (false, false, false));
     assert_eq!(rt; told(&outcomes[1]), (true, false, false));
@@ -130,7 +136,10 @@ fn a_coordinator_dies_where_it_is_to(rt: HostRuntime) {
         let dying = Move::of(b't').until(Some(death));
         let moved = run(&rt, alloc, &plan, log, &[dying]);
         assert!(rt;
-            matches!(&moved.outcomes[0], WorkOutcome::Died { at, known: _ } if *at == death)
+            matches!(
+                &moved.outcomes[0],
+                WorkOutcome::Commit(CommitOutcome::Died { at, known: _ }) if *at == death
+            )
         );
         assert_eq!(rt; told(&moved.outcomes[0]), (commits, true, true));
         assert_eq!(rt; moved.log.has(&tran).is_some(), commits);
@@ -143,11 +152,13 @@ fn a_coordinator_dies_where_it_is_to(rt: HostRuntime) {
 #[test]
 fn without_a_record_nothing_is_committed(rt: HostRuntime) {
     let alloc = rt.alloc();
-    let log = MemoryLog::failing_at(alloc, 1);
+    let log = TrialLog::new(MemoryLog::new(alloc)).failing_at(1);
     let moves = [Move::of(b't'), Move::of(b'u')];
     let moved = run(&rt, alloc, &plan(&rt, alloc), log, &moves);
     let outcomes = &moved.outcomes;
-    assert!(rt; matches!(&outcomes[0], WorkOutcome::Decided(done) if !done.logged));
+    assert!(rt;
+        matches!(&outcomes[0], WorkOutcome::Commit(CommitOutcome::Decided(done)) if !done.logged)
+    );
     assert_eq!(rt; told(&outcomes[0]), (false, false, false));
     assert_eq!(rt; told(&outcomes[1]), (true, false, false));
     assert_eq!(rt; moved.values(&rt), [Some(3), Some(7)]);
@@ -158,11 +169,16 @@ fn without_a_record_nothing_is_committed(rt: HostRuntime) {
 fn a_lost_record_is_the_last(rt: HostRuntime) {
     let alloc = rt.alloc();
     for death in [None, Some(Death::Told)] {
-        let log = LosingLog::losing_at(MemoryLog::new(alloc), 1, true);
+        let log = TrialLog::new(MemoryLog::new(alloc)).losing_at(1, true);
         let moves = [Move::of(b't').until(death), Move::of(b'u')];
         let moved = run(&rt, alloc, &plan(&rt, alloc), log, &moves);
         let outcomes = &moved.outcomes;
-        assert!(rt; matches!(&outcomes[0], WorkOutcome::Undecided(votes) if votes.len() == 2));
+        assert!(rt;
+            matches!(
+            &outcomes[0],
+            WorkOutcome::Commit(CommitOutcome::Undecided(votes)) if votes.len() == 2
+        )
+        );
         assert_eq!(rt; told(&outcomes[0]), (false, false, true));
         assert!(rt; is_not_begun(&outcomes[1]));
         assert_eq!(rt; moved.values(&rt), [Some(5), Some(5)]);

@@ -13,7 +13,8 @@ use Rattle.std.proofs.lemmas.Map.Entries.{option_filter, lookup-filter-keys, loo
 use Rattle.xa_base.proofs.FinMaps.{put_one, remove_one, same_finds, retain_some}
 
 -- a value that passes a test, where there is one
-by_holds : {X : Type 0} (p : X → Bool) (holds : Option X → Bool) → holds None ≡ false → ((v : X) → holds (Some v) ≡ p v) → (o : Option X)
+by_holds : {X : Type 0} (p : X → Bool) (holds : Option X → Bool) → holds None ≡ false → ((v : X) → holds (Some v) ≡ p v)
+    → (o : Option X)
     → option_filter p o ≡ cond (holds o) o None
 by_holds p holds none some None = sym (ap (λ b. cond b None None) none)
 by_holds p holds none some (Some v) = sym (ap (λ b. cond b (Some v) None) (some v))
@@ -46,36 +47,46 @@ module _ {K X : Type 0} {R : K → K → Ordering} (eq : K → K → Bool) (o : 
   pub get-lookup : (es : List (K × X)) (q : K) → map.get (from_entries {R = R} es) q ≡ lookup (eq q) es
   get-lookup es q = get-from_entries o es q ∙ find-lookup es q
 
-  updated : (es fs : List (K × X)) (k : K) (w : Option X) → ((q : K) → lookup (eq q) fs ≡ cond (eq k q) w (lookup (eq q) es))
+  updated : (es fs : List (K × X)) (k : K) (w : Option X)
+      → ((q : K) → lookup (eq q) fs ≡ cond (eq k q) w (lookup (eq q) es))
       → (q : K) → find R q fs ≡ cond (eq_by_cmp R q k) w (find R q es)
-  updated es fs k w h q = find-lookup fs q ∙ h q ∙ (λ i. cond ((by_cmp k q ∙ (eq_by_cmp_equiv o).symm k q) i) w ((sym (find-lookup es q)) i))
+  updated es fs k w h q =
+      find-lookup fs q ∙ h q
+      ∙ (λ i. cond ((by_cmp k q ∙ (eq_by_cmp_equiv o).symm k q) i) w ((sym (find-lookup es q)) i))
 
   -- an insertion
-  pub one_put : (es fs : List (K × X)) (k : K) (v : X) → ((q : K) → lookup (eq q) fs ≡ cond (eq k q) (Some v) (lookup (eq q) es))
+  pub one_put : (es fs : List (K × X)) (k : K) (v : X)
+      → ((q : K) → lookup (eq q) fs ≡ cond (eq k q) (Some v) (lookup (eq q) es))
       → from_entries {R = R} fs ≡ map.insert (from_entries es) k v
   one_put es fs k v h = put_one o same es fs k v (updated es fs k (Some v) h)
 
   -- a removal
-  pub one_removed : (es fs : List (K × X)) (k : K) → ((q : K) → lookup (eq q) fs ≡ cond (eq k q) None (lookup (eq q) es))
+  pub one_removed : (es fs : List (K × X)) (k : K)
+      → ((q : K) → lookup (eq q) fs ≡ cond (eq k q) None (lookup (eq q) es))
       → from_entries {R = R} fs ≡ map.remove (from_entries es) k
   one_removed es fs k h = remove_one o same es fs k (updated es fs k None h) (λ q. (eq_by_cmp_equiv o).symm k q)
 
   -- a table that was laid out anew
-  pub reordered : (es fs : List (K × X)) → ((q : K) → lookup (eq q) fs ≡ lookup (eq q) es) → from_entries {R = R} fs ≡ from_entries es
+  pub reordered : (es fs : List (K × X)) → ((q : K) → lookup (eq q) fs ≡ lookup (eq q) es)
+      → from_entries {R = R} fs ≡ from_entries es
   reordered es fs h = same_finds o same es fs (λ q. find-lookup fs q ∙ h q ∙ sym (find-lookup es q))
 
   -- a table that keeps the entries whose values pass a test
-  pub kept_by_value : (p : X → Bool) (holds : Option X → Bool) → holds None ≡ false → ((v : X) → holds (Some v) ≡ p v) → IsEquivalence eq
+  pub kept_by_value : (p : X → Bool) (holds : Option X → Bool) → holds None ≡ false → ((v : X) → holds (Some v) ≡ p v)
+      → IsEquivalence eq
       → (es kept : List (K × X)) → IsDistinct eq (keys_of es) → kept ≡ filter (λ e. p e.1) es
       → from_entries {R = R} kept ≡ map.retain_keys (from_entries es) (λ k. holds (map.get (from_entries {R = R} es) k))
   kept_by_value p holds none some laws es kept distinct is =
       retain_some o same es kept (λ k. holds (map.get (from_entries {R = R} es) k)) (λ q.
-      find-lookup kept q ∙ ap (lookup (eq q)) is ∙ lookup-filter-values laws p q es distinct ∙ by_holds p holds none some (lookup (eq q) es)
+      find-lookup kept q ∙ ap (lookup (eq q)) is ∙ lookup-filter-values laws p q es distinct
+      ∙ by_holds p holds none some (lookup (eq q) es)
       ∙ (λ i. cond (holds (sym (get-lookup es q) i)) (sym (find-lookup es q) i) None))
 
   -- a table that keeps the entries whose keys pass a test
-  pub kept_by_key : ((p : K → Bool) (q k : K) → eq q k ≡ true → p k ≡ p q) → (p : K → Bool) (es kept : List (K × X)) → kept ≡ filter (λ e. p e.0) es
+  pub kept_by_key : ((p : K → Bool) (q k : K) → eq q k ≡ true → p k ≡ p q) → (p : K → Bool) (es kept : List (K × X))
+      → kept ≡ filter (λ e. p e.0) es
       → from_entries {R = R} kept ≡ map.retain_keys (from_entries es) p
   kept_by_key alike p es kept is =
       retain_some o same es kept p (λ q.
-      find-lookup kept q ∙ ap (lookup (eq q)) is ∙ lookup-filter-keys (eq q) p (p q) (alike p q) es ∙ ap (λ v. cond (p q) v None) (sym (find-lookup es q)))
+      find-lookup kept q ∙ ap (lookup (eq q)) is ∙ lookup-filter-keys (eq q) p (p q) (alike p q) es
+      ∙ ap (λ v. cond (p q) v None) (sym (find-lookup es q)))

@@ -1,5 +1,6 @@
 -- Lemmas of values that may not be there, and of results.
-use Rattle.std.proofs.Common.{arith, ◌≡◌, true, false, Option, None, Some, Result, Ok, Err, is_some, IfSome, IsOk, OnOk, refl, sym, ◌∙◌}
+use Rattle.std.proofs.Common.{arith, ◌≡◌, true, false, Option, None, Some, Result, Ok, Err, is_some, IfSome, IsOk, OnOk}
+use Rattle.std.proofs.Common.{refl, sym, ◌∙◌}
 use Rattle.std.specs.Prelude.{OnErr, option_map}
 use Rattle.std.specs.Option.{option_or}
 use Rattle.std.proofs.lemmas.Option.{none-some}
@@ -28,7 +29,8 @@ on_err (Ok x) P p = tt
 on_err (Err e) P p = p
 
 -- what is made of a value that is there
-pub mapped_some : {A B : Type 0} (f : A → B) (o : Option A) (y : B) → option_map f o ≡ Some y → (x : A) × (o ≡ Some x) × (f x ≡ y)
+pub mapped_some : {A B : Type 0} (f : A → B) (o : Option A) (y : B) → option_map f o ≡ Some y
+    → (x : A) × (o ≡ Some x) × (f x ≡ y)
 mapped_some f None y e = cc
 mapped_some f (Some x) y e = (x, refl, cc)
 

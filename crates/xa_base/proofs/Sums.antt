@@ -30,9 +30,11 @@ total_both f g [] = refl
 total_both f g (x ∷ xs) = regroup (f x) (g x) (total f xs) (total g xs) (total (λ y. f y +ℤ g y) xs) (total_both f g xs)
 
 -- a table may be summed by rows or by columns
-pub total_across : {A B : Type 0} (f : A → B → ℤ) (xs : List A) (ys : List B) → total (λ x. total (f x) ys) xs ≡ total (λ y. total (λ x. f x y) xs) ys
+pub total_across : {A B : Type 0} (f : A → B → ℤ) (xs : List A) (ys : List B)
+    → total (λ x. total (f x) ys) xs ≡ total (λ y. total (λ x. f x y) xs) ys
 total_across f [] ys = sym (total_nothing ys)
-total_across f (x ∷ xs) ys = ap (λ s. total (f x) ys +ℤ s) (total_across f xs ys) ∙ sym (total_both (f x) (λ y. total (λ z. f z y) xs) ys)
+total_across f (x ∷ xs) ys =
+    ap (λ s. total (f x) ys +ℤ s) (total_across f xs ys) ∙ sym (total_both (f x) (λ y. total (λ z. f z y) xs) ys)
 
 -- of one list after the other
 brackets : (a b c u : ℤ) → u ≡ b +ℤ c → a +ℤ u ≡ (a +ℤ b) +ℤ c
@@ -47,7 +49,8 @@ none_counted : (k : ℕ) (v : ℤ) (a n : ℕ) → k < a → total (λ t. if k =
 none_counted k v a zero lt = refl
 none_counted k v a (suc n) lt = search (arith, none_counted k v (a + 1) n (omega arith), ne_eqb)
 
-pub one_counted : (k : ℕ) (v : ℤ) (a n : ℕ) → a ≤ k → k < a + n → total (λ t. if k == t then v else pos 0) (range_with_len a n) ≡ v
+pub one_counted : (k : ℕ) (v : ℤ) (a n : ℕ) → a ≤ k → k < a + n
+    → total (λ t. if k == t then v else pos 0) (range_with_len a n) ≡ v
 one_counted k v a zero from below = absurd (omega arith)
 one_counted k v a (suc n) from below = elim (cases_eq k a) [
   | inl same ↦ rw (eq-eqb k a same) (ap (λ s. v +ℤ s) (none_counted k v (a + 1) n (omega (arith, same))) ∙ plus_none v)

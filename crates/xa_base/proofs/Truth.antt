@@ -7,7 +7,8 @@ use Rattle.std.proofs.lemmas.Bool.{false_from_ne_true, eqb-true, eq-eqb}
 pub use Rattle.std.proofs.lemmas.Bool.{cond-true as at_true, cond-false as at_false}
 
 -- what holds of both branches holds of the choice
-pub by_if : {A : Type 0} (P : A → Type 0) (b : Bool) (p q : A) → (b ≡ true → P p) → (b ≡ false → P q) → P (if b then p else q)
+pub by_if : {A : Type 0} (P : A → Type 0) (b : Bool) (p q : A) → (b ≡ true → P p) → (b ≡ false → P q)
+    → P (if b then p else q)
 by_if P b p q one two = elim b as (λ c. b ≡ c → P (if c then p else q)) [ true ↦ one | false ↦ two ] refl
 
 -- what holds where the value is true, and where it is false
@@ -18,7 +19,8 @@ pub tied_true : (a b : ℕ) → a ≡ b → eq_by_cmp nat_cmp a b ≡ true
 tied_true a b same = unsigned_tied a b ∙ eq-eqb a b same
 
 pub tied_false : (a b : ℕ) → a ≢ b → eq_by_cmp nat_cmp a b ≡ false
-tied_false a b differs = false_from_ne_true (eq_by_cmp nat_cmp a b) (λ e. differs (eqb-true a b (sym (unsigned_tied a b) ∙ e)))
+tied_false a b differs =
+    false_from_ne_true (eq_by_cmp nat_cmp a b) (λ e. differs (eqb-true a b (sym (unsigned_tied a b) ∙ e)))
 
 -- values that an order doesn't tell apart
 pub is_equal : (r : Ordering) → is_eq r ≡ true → r ≡ Equal

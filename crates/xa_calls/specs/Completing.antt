@@ -19,12 +19,12 @@ number_in (pos n) = Some n
 number_in (negsuc n) = None
 
 -- An operation of manager m is kept under the number.
-abbrev pub is_of : ℕ → Option Operation → Bool
-is_of m None = false
-is_of m (Some o) = o.manager == m
+abbrev pub is_of_manager : ℕ → Option Operation → Bool
+is_of_manager m None = false
+is_of_manager m (Some o) = o.manager == m
 
 abbrev pub keeps_for : DeskView → ℕ → ℕ → Bool
-keeps_for d k m = is_of m (map.get d.kept k)
+keeps_for d k m = is_of_manager m (map.get d.kept k)
 
 -- It is kept under the number that a handle stands for.
 abbrev pub keeps_by : DeskView → Option ℕ → ℕ → Bool
@@ -84,9 +84,11 @@ CompletesBy (Ok mode) old number m new result = CompletesIn mode old number m ne
 CompletesBy (Err c) old number m new result = (result ≡ Err c) × (new ≡ old)
 
 -- The handle and the code are written on XA_OK, and on no other answer.
-abbrev pub Tells : Result (ℕ × Code) Code → ℤ → ℤ → ℤ → ℤ → ℤ → Type 0
-Tells (Ok r) handle retval handle' retval' answer = (handle' ≡ pos r.0) × ((retval' ≡ number_of r.1) × (answer ≡ pos 0))
-Tells (Err c) handle retval handle' retval' answer = (handle' ≡ handle) × ((retval' ≡ retval) × (answer ≡ number_of c))
+abbrev pub WritesHandle : Result (ℕ × Code) Code → ℤ → ℤ → ℤ → ℤ → ℤ → Type 0
+WritesHandle (Ok r) handle retval handle' retval' answer = (handle' ≡ pos r.0)
+    × ((retval' ≡ number_of r.1) × (answer ≡ pos 0))
+WritesHandle (Err c) handle retval handle' retval' answer = (handle' ≡ handle)
+    × ((retval' ≡ retval) × (answer ≡ number_of c))
 
 -- What an xa_complete does to the desk, and what it writes and answers.
 pub record HasCompleted (old : DeskView) (handle retval : ℤ) (m flags : ℕ) (new : DeskView)
@@ -94,7 +96,7 @@ pub record HasCompleted (old : DeskView) (handle retval : ℤ) (m flags : ℕ) (
   pub collected : Result (ℕ × Code) Code
   pub completes : CompletesBy (check_flags call.Complete flags) old (number_in handle) m new collected
   pub numbered : IfOk collected (λ r. IsHandle r.0)
-  pub tells : Tells collected handle retval handle' retval' answer
+  pub tells : WritesHandle collected handle retval handle' retval' answer
 
 -- Without TMNOWAIT it may wait.
 abbrev pub completion_waits : Result Mode Code → Bool

@@ -31,22 +31,26 @@ Asking D = D → Op → D → Code → Type 0
 
 -- It was asked of the first k of the xids one after another, of each while fewer than `room` were found, and these were
 -- found: those that were answered XA_OK; the others were answered XAER_NOTA.
-pub data Looks {D : Type 0} (asking : Asking D) (room : ℕ) (xids : List XidName) (old : D)
+pub data RecoverLooks {D : Type 0} (asking : Asking D) (room : ℕ) (xids : List XidName) (old : D)
     : ℕ → List XidName → D → Type 0 where
-  begun : Looks asking room xids old 0 [] old
-  finds : (k : ℕ) (xs : List XidName) (d e : D) (x : XidName) → Looks asking room xids old k xs d → length xs < room
+  begun : RecoverLooks asking room xids old 0 [] old
+  finds : (k : ℕ) (xs : List XidName) (d e : D) (x : XidName) → RecoverLooks asking room xids old k xs d
+      → length xs < room
       → slice_get xids k ≡ Some x → asking d (Listed (Some x)) e Done
-      → Looks asking room xids old (suc k) (xs ++ x ∷ []) e
-  passes : (k : ℕ) (xs : List XidName) (d e : D) (x : XidName) → Looks asking room xids old k xs d → length xs < room
-      → slice_get xids k ≡ Some x → asking d (Listed (Some x)) e Nota → Looks asking room xids old (suc k) xs e
+      → RecoverLooks asking room xids old (suc k) (xs ++ x ∷ []) e
+  passes : (k : ℕ) (xs : List XidName) (d e : D) (x : XidName) → RecoverLooks asking room xids old k xs d
+      → length xs < room
+      → slice_get xids k ≡ Some x → asking d (Listed (Some x)) e Nota → RecoverLooks asking room xids old (suc k) xs e
 
 -- Of these xids it was asked until `room` were found or there were no more, or until another code was answered.
 pub data Scans {D : Type 0} (asking : Asking D) (room : ℕ) (xids : List XidName) (old new : D) (found : List XidName)
     : Result ℕ Code → Type 0 where
-  filled : (looked : ℕ) → Looks asking room xids old looked found new → length found ≡ room
+  filled : (looked : ℕ) → RecoverLooks asking room xids old looked found new → length found ≡ room
       → Scans asking room xids old new found (Ok looked)
-  ended : Looks asking room xids old (length xids) found new → Scans asking room xids old new found (Ok (length xids))
-  stopped : (k : ℕ) (d : D) (x : XidName) (why : Code) → Looks asking room xids old k found d → length found < room
+  ended : RecoverLooks asking room xids old (length xids) found new
+      → Scans asking room xids old new found (Ok (length xids))
+  stopped : (k : ℕ) (d : D) (x : XidName) (why : Code) → RecoverLooks asking room xids old k found d
+      → length found < room
       → slice_get xids k ≡ Some x → asking d (Listed (Some x)) new why → why ≢ Done → why ≢ Nota
       → Scans asking room xids old new found (Err why)
 
@@ -56,18 +60,18 @@ looked_at (Ok r) = Ok r.1
 looked_at (Err why) = Err why
 
 -- what was found stands at the head of the slice, and the rest of it as it was
-abbrev pub written : List XidName → List XidName → List XidName
-written found xids = found ++ drop (length found) xids
+abbrev pub with_found : List XidName → List XidName → List XidName
+with_found found xids = found ++ drop (length found) xids
 
 -- ---- xa_recover
 
 -- where a scan in this mode begins: at the first, or where it stands, if one is open
-abbrev pub start_of : Mode → Option ℕ → Option ℕ
-start_of mode place = if mode.start_scan then Some 0 else place
+abbrev pub scan_start : Mode → Option ℕ → Option ℕ
+scan_start mode place = if mode.start_scan then Some 0 else place
 
 -- where it stands after that
-abbrev pub end_of : Mode → ℕ → Option ℕ
-end_of mode place = if mode.end_scan then None else Some place
+abbrev pub scan_end : Mode → ℕ → Option ℕ
+scan_end mode place = if mode.end_scan then None else Some place
 
 -- for how many xids there is room: for no more than an answer can tell
 abbrev pub room_in : List XidName → ℕ
@@ -82,10 +86,10 @@ pub data Recovers {D : Type 0} (asking : Asking D) (m : ℕ) (mode : Mode) (plac
       → Recovers asking m mode place old z xids new z' xids' (Err why)
   stopped : (mid : D) (found : List XidName) (why : Code) → asking old (Listed None) mid Done
       → Scans asking (room_in xids) (drop place (left_at z m)) mid new found (Err why) → z' ≡ z
-      → xids' ≡ written found xids → Recovers asking m mode place old z xids new z' xids' (Err why)
+      → xids' ≡ with_found found xids → Recovers asking m mode place old z xids new z' xids' (Err why)
   told : (mid : D) (found : List XidName) (looked : ℕ) → asking old (Listed None) mid Done
       → Scans asking (room_in xids) (drop place (left_at z m)) mid new found (Ok looked)
-      → z' ≡ standing z m (end_of mode (place + looked)) → xids' ≡ written found xids
+      → z' ≡ standing z m (scan_end mode (place + looked)) → xids' ≡ with_found found xids
       → Recovers asking m mode place old z xids new z' xids' (Ok (length found))
 
 -- nothing is done, for this reason
@@ -108,7 +112,7 @@ abbrev pub RecoversAt : {D : Type 0} → Asking D → Bool → ℕ → Mode → 
     → List XidName → Result ℕ Code → Type 0
 RecoversAt asking false m mode old z xids new z' xids' r = IsInVain Inval old z xids new z' xids' r
 RecoversAt asking true m mode old z xids new z' xids' r =
-    RecoversFrom asking (start_of mode (place_at z m)) m mode old z xids new z' xids' r
+    RecoversFrom asking (scan_start mode (place_at z m)) m mode old z xids new z' xids' r
 
 -- where the flags have a mode
 abbrev pub RecoversBy : {D : Type 0} → Asking D → Bool → Result Mode Code → ℕ → D → ScanView → List XidName → D
@@ -134,7 +138,7 @@ pub record HasRecovered (m flags : ℕ) (old : DeskView) (z : ScanView) (xids : 
 -- nothing. Only then a recover may wait.
 abbrev pub asks_at : DeskView → ScanView → ℕ → Mode → Bool
 asks_at d z m mode =
-    is_known d.ledgers m && (is_some (start_of mode (place_at z m)) && not (is_some (put_refusal d m false)))
+    is_known d.ledgers m && (is_some (scan_start mode (place_at z m)) && not (is_some (put_refusal d m false)))
 
 -- so where the flags have a mode
 abbrev pub asks : DeskView → ScanView → ℕ → Result Mode Code → Bool

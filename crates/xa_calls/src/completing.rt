@@ -8,7 +8,7 @@ ghost use Rattle.xa_desk.specs.Tickets.{LeavesTickets};
 ghost use Rattle.xa_desk.specs.Waits.{WaitsForAny};
 ghost use Rattle.xa_calls.specs.Putting.{CallLeaves};
 ghost use Rattle.xa_calls.specs.Completing.{number_in, keeps_for, CompletesOne, CompletesAny, may_complete};
-ghost use Rattle.xa_calls.specs.Completing.{CompletesIn, CompletesBy, Tells, HasCompleted, completion_waits};
+ghost use Rattle.xa_calls.specs.Completing.{CompletesIn, CompletesBy, WritesHandle, HasCompleted, completion_waits};
 ghost use Rattle.xa_calls.specs.Completing.{WaitsIn, CompletesAndWaits, HasWaited};
 
 use std::sync::Wait;
@@ -162,7 +162,7 @@ fn complete_by<R: Wait, I: Idle>(
 // Writes what was collected.
 fn tell(collected: Result<(u32, Code), Code>, handle: &mut i32, retval: &mut i32) -> i32
     requires { IfOk collected (λ r. IsHandle r.0) }
-    ensures { Tells collected handle.old retval.old handle.new retval.new result }
+    ensures { WritesHandle collected handle.old retval.old handle.new retval.new result }
 {
     match collected {
         Ok((number, code)) => {

@@ -10,7 +10,7 @@ ghost use Rattle.xa_desk.specs.Kept.{AllKept};
 ghost use Rattle.xa_desk.specs.Tickets.{LeavesTickets};
 ghost use Rattle.xa_base.specs.Lists.{IsUpTo};
 ghost use Rattle.xa_calls.specs.Putting.{CallLeaves, put_refusal};
-ghost use Rattle.xa_calls.specs.Scans.{Scans, looked_at, written, room_in, start_of, Recovers};
+ghost use Rattle.xa_calls.specs.Scans.{Scans, looked_at, with_found, room_in, scan_start, Recovers};
 ghost use Rattle.xa_scan.specs.Left.{left_at};
 ghost use Rattle.xa_calls.specs.Scans.{RecoversBy, HasRecovered, asks, AsksAndWaits, RecoversAndWaits};
 
@@ -55,7 +55,7 @@ fn look<R: Wait, I: Idle>(
 ) -> Result<(usize, usize), Code>
     requires { room ≤ length xids.old }
     ensures scanned { (found : List XidName) × Scans (AsksAndWaits I.leads_by manager) room left.now
-        (desk.old, idle.old) (desk.new, idle.new) found (looked_at result) × (xids.new ≡ written found xids.old)
+        (desk.old, idle.old) (desk.new, idle.new) found (looked_at result) × (xids.new ≡ with_found found xids.old)
         × IfOk result (λ r. r.0 ≡ length found) }
     ensures bound { IfOk result (λ r. r.0 ≤ room) }
     ensures within { IfOk result (λ r. r.1 ≤ length left.now) }

@@ -11,25 +11,25 @@ use Rattle.xa_calls.specs.Completing.{CollectsRedeemed}
 use Rattle.xa_base.specs.Lists.{Chain}
 
 -- What was told of a desk: the numbers of handles with their codes.
-abbrev pub Told : Type 0
-Told = List (ℕ × Code)
+abbrev pub HandleCodes : Type 0
+HandleCodes = List (ℕ × Code)
 
 -- A desk, and what was told of it.
-abbrev pub Telling : Type 0
-Telling = DeskView × Told
+abbrev pub DeskWithCodes : Type 0
+DeskWithCodes = DeskView × HandleCodes
 
 -- What the desk keeps under the number is collected and told; where it keeps nothing there, nothing is done.
-pub data EndsNumber (number : ℕ) (old new : Telling) : Type 0 where
+pub data EndsNumber (number : ℕ) (old new : DeskWithCodes) : Type 0 where
   kept : (c : Code) → CollectsRedeemed old.0 new.0 number c → new.1 ≡ old.1 ++ (number, c) ∷ []
       → EndsNumber number old new
   free : map.get old.0.kept number ≡ None → new ≡ old → EndsNumber number old new
 
 -- The same for the number of each handle, in rising order.
-abbrev pub EndsNumbers : Telling → Telling → Type 0
+abbrev pub EndsNumbers : DeskWithCodes → DeskWithCodes → Type 0
 EndsNumbers first last = Chain EndsNumber first (range_with_len 1 first.0.handles) last
 
 -- The same, so that nothing is kept, and then the desk ends. By all of that it went on.
-pub record EndsDesk (old : DeskView) (told : Told) (ended : EndedView) (told' : Told) : Type 0 where
+pub record EndsDesk (old : DeskView) (told : HandleCodes) (ended : EndedView) (told' : HandleCodes) : Type 0 where
   pub emptied : DeskView
   pub collects : EndsNumbers (old, told) (emptied, told')
   pub none : HoldsNone emptied

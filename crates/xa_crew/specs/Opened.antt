@@ -17,7 +17,7 @@ abbrev pub clients_of : {C : Type 0} → Opened C → List C
 clients_of o = map (λ a. a.client) o.jobs.items
 
 -- nothing is there of what so many clients come to, and there is room for it, and for as many workers as there may be
-pub record HasRoomFor {C : Type 0} (n : ℕ) (r : Room C) : Type 0 where
+pub record HasRoomForClients {C : Type 0} (n : ℕ) (r : Room C) : Type 0 where
   pub none_attended : r.attended.items ≡ []
   pub none_ended : r.ended.items ≡ []
   pub none_worked : r.worked.items ≡ []
@@ -33,7 +33,7 @@ pub record HasMemoryFor {C : Type 0} (n : ℕ) (m : CrewMemory C) : Type 0 where
   pub jobs : n ≤ vec_capacity m.jobs
   pub as_many : length m.outstanding.items ≡ n
   pub tell : All CanTell m.outstanding.items
-  pub room : HasRoomFor n m.room
+  pub room : HasRoomForClients n m.room
 
 -- It was opened with this, and nothing is done: its clients have the desks of the opening, and its workers are those of
 -- the opening.
@@ -41,7 +41,7 @@ pub record IsOpened {C : Type 0} (p : Setup) (o : Opened C) : Type 0 where
   pub limits : IsWithinLimits p.numbers p.managers
   pub opened : AreOfOneOpening p (map (λ a. a.desk) o.jobs.items) o.workers.items
   pub ready : All IsReady o.jobs.items
-  pub room : HasRoomFor (length o.jobs.items) o.room
+  pub room : HasRoomForClients (length o.jobs.items) o.room
 
 -- what comes back of a run that wasn't started is this
 abbrev pub IfNotStarted : {C : Type 0} → (Opened C → Type 0) → OpenedFault C → Type 0

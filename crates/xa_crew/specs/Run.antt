@@ -28,9 +28,9 @@ use Rattle.xa_crew.specs.Ending.{EndsDesk}
 use Rattle.xa_crew.specs.Pieces.{HasServed}
 
 -- What a run fails by where the switch can't be opened.
-abbrev pub fault_of : {C : Type 0} → OpenFault → CrewFault C
-fault_of open_.BadPlan = crew.BadPlan
-fault_of open_.NoMemory = crew.NoMemory
+abbrev pub crew_fault_of : {C : Type 0} → OpenFault → CrewFault C
+crew_fault_of open_.BadPlan = crew.BadPlan
+crew_fault_of open_.NoMemory = crew.NoMemory
 
 -- ---- one thread
 

@@ -17,12 +17,12 @@ use Rattle.xa_crew.specs.declared.worker_job.WorkerJob.{WorkerJob}
 use Rattle.xa_crew.specs.declared.worker_job.StoredWorker.{StoredWorker}
 
 -- a store for each of these tables, at the same place, which keeps them
-abbrev pub AreKept : {S : Type 0} → (S → Tables → Type 0) → (S → Tables → Type 0) → List Tables → List S → Type 0
-AreKept knows may_leave tables stores = Pairwise (Keeps knows may_leave) tables stores
+abbrev pub StoresKeep : {S : Type 0} → (S → Tables → Type 0) → (S → Tables → Type 0) → List Tables → List S → Type 0
+StoresKeep knows may_leave tables stores = Pairwise (Keeps knows may_leave) tables stores
 
 -- the tables that each worker's manager has at the end
-abbrev pub tables_of : List Served → List Tables
-tables_of done = map (λ d. d.manager.tables) done
+abbrev pub tables_served : List Served → List Tables
+tables_served done = map (λ d. d.manager.tables) done
 
 -- The managers of the settled opening are those that these workers have run with, by rising number.
 pub record HasManagers (s : Settling) (done : List Served) : Type 0 where
@@ -44,8 +44,8 @@ pub record HasServedStored {P S : Type 0} (knows may_leave : S → Tables → Ty
       → Keeps knows may_leave d.done.manager.tables d.store
 
 -- the tables that they have left
-abbrev pub tables_left : {S : Type 0} → List (StoredWorker S) → List Tables
-tables_left stored = map (λ d. d.done.manager.tables) stored
+abbrev pub stored_tables : {S : Type 0} → List (StoredWorker S) → List Tables
+stored_tables stored = map (λ d. d.done.manager.tables) stored
 
 -- all threads of a run of these clients have come to this
 abbrev pub HaveAllRun : {C S : Type 0} → (C → DeskView → C → DeskView → Type 0) → Setup → List C → List (Worked C)

@@ -12,7 +12,6 @@ goes_nowhere w = record {
   same = record { number = refl; first = refl; threads = refl; receiver = (refl, refl, refl, refl); lanes = refl };
   seat = refl;
   journal = ([], sym (append-nil w.journal));
-  tied = λ is. is;
 }
 
 -- a worker that goes on twice has gone on
@@ -21,7 +20,6 @@ goes_both u v w first later = record {
   same = same-chain u v w first.same later.same;
   seat = later.seat ∙ first.seat;
   journal = extends-chain u.journal v.journal w.journal first.journal later.journal;
-  tied = λ is. later.tied (first.tied is);
 }
 
 -- workers that are as they were

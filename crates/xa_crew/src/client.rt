@@ -8,7 +8,7 @@ use xa_desk::{Desk, Idle};
 
 /// What a thread of control does with its desk.
 ///
-/// It calls managers by `xa_call`, `native` and `xa_complete`, and commits by `commit_all`, each with the idle that it
+/// It calls managers by `xa_call`, `native` and `xa_complete`, and commits by `commit`, each with the idle that it
 /// is lent: in a thread of its own that yields, and in one thread for all it gives the workers their turns. The
 /// contracts of these calls say that the desk goes on, that what is outstanding stays kept, and that the idle did
 /// nothing else; the laws `desks_go_on` and `idles_go_on` join them.

@@ -40,9 +40,9 @@ impl<C> From<AllocError> for CrewFault<C> {
 }
 
 impl<C> From<OpenFault> for CrewFault<C> {
-    ghost use Rattle.xa_crew.specs.Run.{fault_of};
+    ghost use Rattle.xa_crew.specs.Run.{crew_fault_of};
 
-    ghost from_gives = { λ why fault. fault ≡ fault_of why };
+    ghost from_gives = { λ why fault. fault ≡ crew_fault_of why };
 
     fn from(why: OpenFault) -> CrewFault<C> {
         match why {

@@ -2,9 +2,10 @@
 ghost use Rattle.std.specs.Prelude.{◌≡◌, ◌≤◌, ◌↔◌, [], List, length, map, vec_capacity, All, IfOk, IfErr, OnOk};
 ghost use Rattle.xa_switch.specs.OpenedPieces.{AreOfOneOpening};
 ghost use Rattle.xa_switch.specs.Plans.{IsSound, IsWithinLimits, Setup, planned};
-ghost use Rattle.xa_crew.specs.Opened.{HasMemoryFor, HasRoomFor, IfNotSettled, IfNotStarted, IsOpened, clients_of};
+ghost use Rattle.xa_crew.specs.Opened.{HasMemoryFor, HasRoomForClients, IfNotSettled, IfNotStarted, IsOpened};
+ghost use Rattle.xa_crew.specs.Opened.{clients_of};
 ghost use Rattle.xa_crew.specs.Run.{CanTell, HasRunAll, IsRun};
-ghost use Rattle.xa_crew.specs.Stores.{AreKept, HasManagers, HaveAllRun, KeepLast, tables_of};
+ghost use Rattle.xa_crew.specs.Stores.{StoresKeep, HasManagers, HaveAllRun, KeepLast, tables_served};
 
 use crate::client::Client;
 use crate::client_job::{Attended, ClientJob, Worked, attend_all, client_jobs_of};
@@ -76,7 +77,7 @@ impl<C> fmt::Debug for OpenedFault<C> {
 impl<C: Client> Room<C> {
     // Room for so many clients. It fails only for want of memory.
     fn reserve(alloc: Global, clients: usize) -> Result<Room<C>, AllocError>
-        ensures { IfOk result (HasRoomFor clients) }
+        ensures { IfOk result (HasRoomForClients clients) }
     {
         Ok(Room {
             attended: Vec::with_capacity(alloc, clients)?,
@@ -220,7 +221,7 @@ impl<C: Client + Send + 'static> Opened<C> {
         paces: Vec<P>,
         stores: Vec<S>,
     ) -> (Result<Run<C>, OpenedFault<C>>, Vec<S>)
-        requires opened { (p : Setup) × IsOpened p self × AreKept S.knows S.may_leave p.first stores.items }
+        requires opened { (p : Setup) × IsOpened p self × StoresKeep S.knows S.may_leave p.first stores.items }
         requires paces { length self.workers.items ≤ length paces.items }
         ensures ran { IfOk result.0 (λ r. (p : Setup) → IsOpened p self
             → IsRun C.works p (clients_of self) r.clients.items r.settled) }
@@ -231,7 +232,7 @@ impl<C: Client + Send + 'static> Opened<C> {
         ensures unsettled { IfErr result.0 (IfNotSettled (λ ran. (p : Setup) → IsOpened p self
             → HasRunAll C.works p (clients_of self) ran)) }
         ensures kept_so { IfErr result.0 (IfNotSettled (λ ran.
-            AreKept S.knows S.may_leave (tables_of ran.workers.items) result.1.items)) }
+            StoresKeep S.knows S.may_leave (tables_served ran.workers.items) result.1.items)) }
     {
         let Opened {
             jobs,
@@ -278,7 +279,7 @@ fn settle_stored<R: Wait, C: Client, S: Store + Drop>(
     kept: Vec<S>,
 ) -> (Result<Run<C>, Ran<C>>, Vec<S>)
     requires ran { (p : Setup) × (cs : List C) × HaveAllRun C.works p cs worked.items stored.items }
-    requires room { HasRoomFor (length worked.items) room }
+    requires room { HasRoomForClients (length worked.items) room }
     requires workers { length stored.items ≤ MOST_MANAGERS }
     requires none { kept.items ≡ [] }
     requires stores { length stored.items ≤ vec_capacity kept }

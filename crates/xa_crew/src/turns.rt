@@ -8,7 +8,7 @@ use std::marker::Model;
 use std::sync::Wait;
 use xa_desk::Idle;
 use xa_store::NoStore;
-use xa_worker::{DoneWorker, Free, Step, Worker};
+use xa_worker::{DoneWorker, Free, Worker, WorkerStep};
 
 /// All workers of an opening by rising manager, which take turns in the one thread that runs it.
 ///
@@ -50,7 +50,7 @@ impl Turns {
     }
 
     /// The worker of this manager does one thing, if it has one to do.
-    pub fn turn<R: Wait>(&mut self, rt: &R, manager: u32) -> Step
+    pub fn turn<R: Wait>(&mut self, rt: &R, manager: u32) -> WorkerStep
         requires { IsUpTo (length self.old) manager }
         ensures turn { TakesTurn manager result self.old self.new }
         ensures on { AllGoOn self.old self.new }

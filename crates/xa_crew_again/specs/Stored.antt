@@ -16,8 +16,8 @@ module _ {S : Type 0} (knows may_leave : S → Tables → Type 0) where
   Reopens s s' = (T : Tables) → KeepsEither T s → Keeps knows may_leave (reopened T) s'
 
   -- it keeps as much as before
-  abbrev pub Stays : S → S → Type 0
-  Stays s s' = (T : Tables) → KeepsEither T s → KeepsEither T s'
+  abbrev pub KeepsAsMuch : S → S → Type 0
+  KeepsAsMuch s s' = (T : Tables) → KeepsEither T s → KeepsEither T s'
 
   -- There is a store for each manager of the settled opening, and it keeps the tables that its manager has at the end,
   -- or what a reopening makes of them: the store of manager m is at place m - 1.

@@ -5,11 +5,12 @@ ghost use Rattle.xa_base.specs.Lists.{Pairwise};
 ghost use Rattle.xa_switch.specs.Reopening.{MayReopen, managers_in, reopening};
 ghost use Rattle.xa_crew_again.specs.Again.{AreGiven, HasRunAgain, IfUnopened, IfUnstarted, IfUnsettled, IsBad};
 ghost use Rattle.xa_crew_again.specs.Again.{IsRunAgain};
-ghost use Rattle.xa_crew_again.specs.Stored.{KeepOne, Reopens, Stays};
+ghost use Rattle.xa_crew_again.specs.Stored.{KeepOne, Reopens, KeepsAsMuch};
 ghost use Rattle.xa_crew.specs.Opened.{IsOpened, clients_of};
-ghost use Rattle.xa_crew.specs.Stores.{AreKept, KeepLast, tables_of};
+ghost use Rattle.xa_crew.specs.Stores.{StoresKeep, KeepLast, tables_served};
 
 use crate::again::{AgainFault, ClientAgain, UnopenedClients, WithScan, open_clients_again};
+use laws_tables::a_second_reopening_changes_nothing;
 use std::alloc::Global;
 use std::sync::Wait;
 use std::thread::Threads;
@@ -17,14 +18,13 @@ use xa_base::{MOST_JOURNALED, MOST_THREADS};
 use xa_crew::{OpenedFault, Run};
 use xa_store::Store;
 use xa_switch::{Again, OpenFault, Settled, may_reopen};
-use laws_tables::a_second_reopening_changes_nothing;
 use xa_worker::Pace;
 
 // Reopens a store, and clears the flag where it can't: the store is as it was then.
 fn reopen_one<S: Store>(store: S, threads: u32, room: u32, all: &mut bool) -> S
     requires threads { (1 ≤ threads) × (threads ≤ MOST_THREADS) }
     requires room { (1 ≤ room) × (room ≤ MOST_JOURNALED) }
-    ensures stays { Stays S.knows S.may_leave store result }
+    ensures stays { KeepsAsMuch S.knows S.may_leave store result }
     ensures reopens { IsTrue all.new → Reopens S.knows S.may_leave store result }
     ensures before { IsTrue all.new → IsTrue all.old }
 {
@@ -50,7 +50,7 @@ fn reopen_each<S: Store + Drop>(
     requires room { (1 ≤ room) × (room ≤ MOST_JOURNALED) }
     requires none { next.items ≡ [] }
     requires space { length stores.items ≤ vec_capacity next }
-    ensures stays { Pairwise (Stays S.knows S.may_leave) stores.items result.1.items }
+    ensures stays { Pairwise (KeepsAsMuch S.knows S.may_leave) stores.items result.1.items }
     ensures reopens { IsTrue result.0 → Pairwise (Reopens S.knows S.may_leave) stores.items result.1.items }
 {
     let mut all = true;
@@ -71,7 +71,7 @@ fn reopen_stores<S: Store + Drop>(
     requires threads { (1 ≤ threads) × (threads ≤ MOST_THREADS) }
     requires room { (1 ≤ room) × (room ≤ MOST_JOURNALED) }
     ensures reopened { IfOk result (λ r. Pairwise (Reopens S.knows S.may_leave) stores.items r.items) }
-    ensures stay { IfErr result (λ r. Pairwise (Stays S.knows S.may_leave) stores.items r.items) }
+    ensures stay { IfErr result (λ r. Pairwise (KeepsAsMuch S.knows S.may_leave) stores.items r.items) }
 {
     let Ok(next) = Vec::with_capacity(alloc, stores.len()) else {
         return Err(stores);
@@ -97,7 +97,7 @@ fn run_reopened<
 ) -> (Result<Run<WithScan<C>>, AgainFault<C>>, Vec<S>)
     requires clients { length clients.items ≡ again.now.threads }
     requires paces { managers_in settled ≤ length paces.items }
-    requires stores { AreKept S.knows S.may_leave (reopening settled again.now).first stores.items }
+    requires stores { StoresKeep S.knows S.may_leave (reopening settled again.now).first stores.items }
     ensures ran { IfOk result.0 (λ r. IsRunAgain C.works_again settled again.now clients.items r.clients.items
         r.settled) }
     ensures kept { IfOk result.0 (λ r. KeepLast S.knows S.may_leave r.settled result.1.items) }
@@ -108,10 +108,10 @@ fn run_reopened<
     ensures unstarted { IfErr result.0 (IfUnstarted (λ o. IsOpened (reopening settled again.now) o
         × AreGiven settled again.now clients.items (clients_of o))) }
     ensures unstarted_stores { IfErr result.0 (IfUnstarted (λ o.
-        AreKept S.knows S.may_leave (reopening settled again.now).first result.1.items)) }
+        StoresKeep S.knows S.may_leave (reopening settled again.now).first result.1.items)) }
     ensures unsettled { IfErr result.0 (IfUnsettled (HasRunAgain C.works_again settled again.now clients.items)) }
     ensures kept_so { IfErr result.0 (IfUnsettled (λ ran.
-        AreKept S.knows S.may_leave (tables_of ran.workers.items) result.1.items)) }
+        StoresKeep S.knows S.may_leave (tables_served ran.workers.items) result.1.items)) }
 {
     match open_clients_again(rt, alloc, settled, again, clients) {
         Ok(opened) => {
@@ -162,10 +162,10 @@ pub fn run_clients_again_stored<
     ensures unstarted { IfErr result.0 (IfUnstarted (λ o. IsOpened (reopening settled again.now) o
         × AreGiven settled again.now clients.items (clients_of o))) }
     ensures unstarted_stores { IfErr result.0 (IfUnstarted (λ o.
-        AreKept S.knows S.may_leave (reopening settled again.now).first result.1.items)) }
+        StoresKeep S.knows S.may_leave (reopening settled again.now).first result.1.items)) }
     ensures unsettled { IfErr result.0 (IfUnsettled (HasRunAgain C.works_again settled again.now clients.items)) }
     ensures kept_so { IfErr result.0 (IfUnsettled (λ ran.
-        AreKept S.knows S.may_leave (tables_of ran.workers.items) result.1.items)) }
+        StoresKeep S.knows S.may_leave (tables_served ran.workers.items) result.1.items)) }
 {
     if !may_reopen(&settled, again) {
         let why = OpenFault::BadPlan;

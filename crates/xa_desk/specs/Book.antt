@@ -23,7 +23,7 @@ desk_of b = record {
 }
 
 -- threads are numbered from 1 to 8, there are 1 to 32 handles, and there are 1 to 8 managers
-pub record IsWithinLimits (t h m : ℕ) : Type 0 where
+pub record IsDeskWithinLimits (t h m : ℕ) : Type 0 where
   pub thread : (1 ≤ t) × (t ≤ MOST_THREADS)
   pub handles : (1 ≤ h) × (h ≤ MOST_HANDLES)
   pub managers : (1 ≤ m) × (m ≤ MOST_MANAGERS)
@@ -39,7 +39,7 @@ pub record IsBook (b : Inside) : Type 0 where
   pub places : length b.kept.items ≡ b.handles
   pub drained : b.drained_now ≡ length (logged b.drained.items)
   pub planned : planned_total b.ledgers.items ≤ MOST_REQUESTS * MOST_MANAGERS
-  pub limits : IsWithinLimits b.thread b.handles (length b.ledgers.items)
+  pub limits : IsDeskWithinLimits b.thread b.handles (length b.ledgers.items)
   pub ends : (b.ends.items ≡ []) × (MOST_MANAGERS ≤ vec_capacity b.ends)
   pub kept_marks : AreKept b.kept_marks b.kept.items
   pub ready_marks : AreReady b.ready_marks b.kept.items (logged b.drained.items)

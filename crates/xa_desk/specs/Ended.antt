@@ -30,6 +30,6 @@ abbrev pub AreBalanced : List LedgerView → Type 0
 AreBalanced at = (m : ℕ) → IsKnown at m → IsBalanced (ledger at m)
 
 -- what is known of every desk that has ended
-pub record IsEnded (e : EndedView) : Type 0 where
+pub record IsEndedDesk (e : EndedView) : Type 0 where
   pub tied : IsTied e.thread e.ledgers e.drained e.requests e.completions
   pub settled : AreBalanced e.ledgers

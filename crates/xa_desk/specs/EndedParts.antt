@@ -1,7 +1,7 @@
 -- How an ended desk keeps what contracts see of it.
 use Rattle.std.specs.Prelude.{◌≤◌, length}
 use Rattle.xa_base.specs.declared.limits.TheConstants.{MOST_MANAGERS, MOST_THREADS}
-use Rattle.xa_desk.specs.Ended.{EndedView, IsEnded}
+use Rattle.xa_desk.specs.Ended.{EndedView, IsEndedDesk}
 use Rattle.xa_desk.specs.Slots.{logged}
 use Rattle.xa_desk.specs.declared.ended.EndedDesk.TheInside.{Inside}
 
@@ -17,6 +17,6 @@ ended_of e = record {
 
 -- the threads and the managers are within the limits
 pub record AreEndedParts (e : Inside) : Type 0 where
-  pub known : IsEnded (ended_of e)
+  pub known : IsEndedDesk (ended_of e)
   pub thread : (1 ≤ e.thread) × (e.thread ≤ MOST_THREADS)
   pub managers : (1 ≤ length e.ledgers.items) × (length e.ledgers.items ≤ MOST_MANAGERS)

@@ -101,7 +101,7 @@ pub record PartsView : Type 0 where
   pub use_async : List Bool
 
 -- nothing was sent and nothing was taken
-pub record AreNew (requests : List (Sending Request)) (completions : Receiving Completion) : Type 0 where
+pub record AreUnused (requests : List (Sending Request)) (completions : Receiving Completion) : Type 0 where
   pub sent : All (λ s. s.sent ≡ []) requests
   pub taken : completions.taken ≡ []
 

@@ -29,16 +29,16 @@ pub use Looks.{Collects, CollectsKept, CollectsLeast, CollectsTaken, Drains, Dra
 pub use Looks.{Pops, TakesKept, after_quiet, drawn, first, other, start}
 pub use Ledger.{IsLedger, ledger_of}
 pub use Slots.{AreKeys, AreTold, EntersCode, EntersHandle, HasKept, HasSlot, IsBooks, IsOrderly, KeysView}
-pub use Slots.{collected_total, kept_of, key_at, logged, no_keys, planned_total, ready_count, ready_weight, row_of}
-pub use Slots.{with_key}
+pub use Slots.{collected_total, kept_of, key_of_operation, logged, no_keys, planned_total, ready_count, ready_weight}
+pub use Slots.{row_of_manager, with_key}
 pub use Marks.{AreKept, AreReady, is_marked}
-pub use Book.{IsBook, IsWithinLimits, desk_of}
+pub use Book.{IsBook, IsDeskWithinLimits, desk_of}
 pub use Tickets.{LeavesOthers, LeavesTickets}
-pub use Lanes.{AreEnds, AreEndsTo, AreNew, IsDesk, IsEndTo, IsPartOf, IsTied, PartsView, WasDrained, after_full}
+pub use Lanes.{AreEnds, AreEndsTo, AreUnused, IsDesk, IsEndTo, IsPartOf, IsTied, PartsView, WasDrained, after_full}
 pub use Lanes.{after_fulls, arrived, new_desk, new_ledgers, next_request, nothing, numbered, submitted, with_last}
 pub use Lanes.{without_last}
-pub use Ended.{AreBalanced, EndedView, Ends, IsEnded}
-pub use Parts.{AreParts, carried, parts_of}
+pub use Ended.{AreBalanced, EndedView, Ends, IsEndedDesk}
+pub use Parts.{AreParts, carried, parts_view}
 pub use EndedParts.{AreEndedParts, ended_of}
 pub use DeskSeats.{DeskSeat, desk_seat, seat_of_desk, seat_of_ended}
 pub use Growth.{HasGrown, HaveGrown}

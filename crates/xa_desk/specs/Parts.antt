@@ -4,7 +4,7 @@ use Rattle.xa_base.specs.declared.limits.TheConstants.{MOST_MANAGERS, MOST_REQUE
 use Rattle.xa_desk.specs.LedgerViews.{LedgerView}
 use Rattle.xa_desk.specs.Lanes.{PartsView, new_ledgers}
 use Rattle.xa_desk.specs.Slots.{no_keys}
-use Rattle.xa_desk.specs.Book.{IsWithinLimits}
+use Rattle.xa_desk.specs.Book.{IsDeskWithinLimits}
 use Rattle.xa_desk.specs.declared.operation.TheConstants.{MOST_SLOTS}
 use Rattle.xa_desk.specs.declared.parts.DeskParts.TheInside.{Inside}
 
@@ -13,8 +13,8 @@ abbrev pub carried : List LedgerView → List Bool
 carried at = map (λ a. a.carries_async) at
 
 -- what contracts see
-abbrev pub parts_of : Inside → PartsView
-parts_of p = record { thread = p.thread; handles = p.handles; plan = p.plan; use_async = carried p.ledgers.items }
+abbrev pub parts_view : Inside → PartsView
+parts_view p = record { thread = p.thread; handles = p.handles; plan = p.plan; use_async = carried p.ledgers.items }
 
 -- nothing was done with any part, and there is room for all that is planned
 pub record AreParts (p : Inside) : Type 0 where
@@ -26,4 +26,4 @@ pub record AreParts (p : Inside) : Type 0 where
   pub planned : p.plan ≤ MOST_REQUESTS
   pub ends : p.ends.items ≡ []
   pub ends_room : MOST_MANAGERS ≤ vec_capacity p.ends
-  pub limits : IsWithinLimits p.thread p.handles (length p.ledgers.items)
+  pub limits : IsDeskWithinLimits p.thread p.handles (length p.ledgers.items)

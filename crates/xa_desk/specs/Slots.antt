@@ -47,16 +47,16 @@ abbrev pub with_key : KeysView → ℕ → KeysView
 with_key row key = record row { keys = row.keys ++ key ∷ [] }
 
 -- the row of manager m
-abbrev pub row_of : List KeysView → ℕ → KeysView
-row_of rows m = slice_index_or rows (m - 1) (no_keys 0)
+abbrev pub row_of_manager : List KeysView → ℕ → KeysView
+row_of_manager rows m = slice_index_or rows (m - 1) (no_keys 0)
 
 -- the key that the rows tell for an operation
-abbrev pub key_at : List KeysView → Operation → Option ℕ
-key_at rows o = slice_get (row_of rows o.manager).keys o.number
+abbrev pub key_of_operation : List KeysView → Operation → Option ℕ
+key_of_operation rows o = slice_get (row_of_manager rows o.manager).keys o.number
 
 -- the rows tell the key of each slot
 abbrev pub AreTold : List KeysView → Slab Slot → Type 0
-AreTold rows s = (key : ℕ) (slot : Slot) → get s key ≡ Some slot → key_at rows slot.operation ≡ Some key
+AreTold rows s = (key : ℕ) (slot : Slot) → get s key ≡ Some slot → key_of_operation rows slot.operation ≡ Some key
 
 -- the operation's slot, which had no code, gets this one
 pub record EntersCode (s : Slab Slot) (o : Operation) (code : Code) (t : Slab Slot) : Type 0 where
@@ -83,8 +83,8 @@ pub record EntersHandle (s : Slab Slot) (o : Operation) (handle : ℕ) (t : Slab
 -- tell the key of each slot
 pub record AreKeys (at : List LedgerView) (rows : List KeysView) (s : Slab Slot) : Type 0 where
   pub number : length rows ≡ length at
-  pub sent : (m : ℕ) → IsKnown at m → length (row_of rows m).keys ≡ length (ledger at m).sent
-  pub planned : (m : ℕ) → IsKnown at m → (ledger at m).plan ≤ (row_of rows m).capacity
+  pub sent : (m : ℕ) → IsKnown at m → length (row_of_manager rows m).keys ≡ length (ledger at m).sent
+  pub planned : (m : ℕ) → IsKnown at m → (ledger at m).plan ≤ (row_of_manager rows m).capacity
   pub told : AreTold rows s
 
 -- the completions that a log has, in order

@@ -9,7 +9,7 @@ ghost use Rattle.xa_desk.specs.DeskViews.{IsLeastFree, ready_at, keeps_at, room_
 ghost use Rattle.xa_desk.specs.DeskViews.{spent_refusal, room_refusal};
 ghost use Rattle.xa_desk.specs.Ended.{Ends, AreBalanced};
 ghost use Rattle.xa_desk.specs.GoingOn.{GoesOn, GoesOut};
-ghost use Rattle.xa_desk.specs.Lanes.{AreEnds, AreNew, IsDesk, new_desk, submitted, after_full, after_fulls};
+ghost use Rattle.xa_desk.specs.Lanes.{AreEnds, AreUnused, IsDesk, new_desk, submitted, after_full, after_fulls};
 ghost use Rattle.xa_desk.specs.Looks.{EndsQuiet, Collects, CollectsKept, CollectsLeast};
 ghost use Rattle.xa_desk.specs.Tickets.{LeavesTickets, LeavesOthers};
 ghost use Rattle.xa_desk.specs.Waits.{WaitsFor, WaitsForAny, SendsAndWaits, MarkEnds};
@@ -77,13 +77,20 @@ impl Desk {
         completions: Receiver<Completion>,
     ) -> Desk
         requires ends { AreEnds parts.thread (length parts.use_async) requests.items completions }
-        requires new { AreNew requests.items completions }
+        requires new { AreUnused requests.items completions }
         ensures made { result ≡ new_desk parts requests.items completions }
-        ensures tied { IsDesk result }
     {
         Desk {
             book: Book::assemble(parts, requests, completions),
         }
+    }
+
+    /// What holds of every desk: its ledgers and what was drained say what the ends of its lanes do. A law: nothing is
+    /// done.
+    pub fn is_tied(&self)
+        ensures { IsDesk self.now }
+    {
+        let _inside = &self.book;
     }
 
     /// The thread of control, from 1.
@@ -182,7 +189,6 @@ impl Desk {
         ensures ticket { IfOk result (λ t. t ≡ ticket_of self.old (next_operation self.old.ledgers manager)) }
         ensures owned { IfOk result (λ t. Owns self.new t) }
         ensures sent { OnOk result (self.new ≡ submitted self.old manager op.now) }
-        ensures tied { IsDesk self.new }
         ensures goes_on { GoesOn self.old self.new }
 
         // Each older ticket is still owned, and of another operation.
@@ -214,7 +220,6 @@ impl Desk {
         ensures ticket { IfOk result (λ t. t ≡ ticket_of self.old (next_operation self.old.ledgers manager)) }
         ensures owned { IfOk result (λ t. Owns self.new t) }
         ensures sent { OnOk result (self.new ≡ submitted self.old manager op.now) }
-        ensures tied { IsDesk self.new }
         ensures goes_on { GoesOn self.old self.new }
         ensures tickets { LeavesTickets self.old self.new }
         ensures fresh { IfOk result (λ t. (older : TicketView) → Owns self.old older → older.operation ≢ t.operation) }
@@ -249,7 +254,6 @@ impl Desk {
         ensures collected { IfOk result (λ code. (n : ℕ) × Collects
             (submitted (after_fulls n self.old manager) manager op.now) self.new
             (next_operation self.old.ledgers manager) code) }
-        ensures tied { IsDesk self.new }
         ensures goes_on { GoesOn self.old self.new }
         ensures tickets { LeavesTickets self.old self.new }
         ensures waited { IfOk result (SendsAndWaits (I.leads_by manager) self.old self.new idle.old idle.new manager
@@ -269,7 +273,6 @@ impl Desk {
     pub fn complete<R: Wait, I: Idle>(&mut self, rt: &R, ticket: Ticket, idle: &mut I) -> Code
         requires { Owns self.old ticket }
         ensures collected { Collects self.old self.new ticket.operation result }
-        ensures tied { IsDesk self.new }
         ensures goes_on { GoesOn self.old self.new }
         ensures others { LeavesOthers self.old self.new ticket.operation }
         ensures waited { WaitsFor (I.leads_by ticket.operation.manager) self.old self.new idle.old idle.new
@@ -290,7 +293,6 @@ impl Desk {
         ensures owned { IfErr result (λ t. Owns self.new t) }
         ensures quiet { OnErr result (EndsQuiet self.old self.new) }
         ensures nothing { OnErr result (drained_code ticket.operation self.new.drained ≡ None) }
-        ensures tied { IsDesk self.new }
         ensures goes_on { GoesOn self.old self.new }
         ensures others { LeavesOthers self.old self.new ticket.operation }
         ensures tickets { OnErr result (LeavesTickets self.old self.new) }
@@ -311,7 +313,6 @@ impl Desk {
         ensures least { IsLeastFree self.old.kept result }
         ensures kept { self.new ≡ record self.old { kept = map.insert self.old.kept result ticket.operation } }
         ensures handle { IsHandle result }
-        ensures tied { IsDesk self.new }
         ensures goes_on { GoesOn self.old self.new }
         ensures others { LeavesOthers self.old self.new ticket.operation }
     {
@@ -326,7 +327,6 @@ impl Desk {
         ensures freed { OnSome result (self.new ≡ record self.old { kept = map.remove self.old.kept number }) }
         ensures absent { IsNone result ↔ (map.get self.old.kept number ≡ None) }
         ensures unchanged { IfNone result (self.new ≡ self.old) }
-        ensures tied { IsDesk self.new }
         ensures goes_on { GoesOn self.old self.new }
 
         // Each older ticket is still owned, and of another operation.
@@ -360,7 +360,6 @@ impl Desk {
         ensures collected { IfSome result (CollectsKept self.old self.new number) }
         ensures quiet { IsNone result → EndsQuiet self.old self.new }
         ensures nothing { IsNone result → ready_at self.new 0 number ≡ false }
-        ensures tied { IsDesk self.new }
         ensures goes_on { GoesOn self.old self.new }
         ensures tickets { LeavesTickets self.old self.new }
     {
@@ -382,7 +381,6 @@ impl Desk {
         ensures some { IsOk result → (k : ℕ) × (keeps_at self.old manager k ≡ true) }
         ensures nothing { IsErr result → (k : ℕ) → keeps_at self.old manager k ≡ false }
         ensures unchanged { OnErr result (self.new ≡ self.old) }
-        ensures tied { IsDesk self.new }
         ensures goes_on { GoesOn self.old self.new }
         ensures tickets { LeavesTickets self.old self.new }
         ensures waited { IfOk result (λ r. WaitsForAny (I.leads_by manager) self.old self.new idle.old idle.new manager
@@ -416,7 +414,6 @@ impl Desk {
         ensures retry_some { result ≡ Err AnyFault.Retry → (k : ℕ) × (keeps_at self.old manager k ≡ true) }
         ensures retry_quiet { result ≡ Err AnyFault.Retry → EndsQuiet self.old self.new }
         ensures retry_none { result ≡ Err AnyFault.Retry → (k : ℕ) → ready_at self.new manager k ≡ false }
-        ensures tied { IsDesk self.new }
         ensures goes_on { GoesOn self.old self.new }
         ensures tickets { LeavesTickets self.old self.new }
     {

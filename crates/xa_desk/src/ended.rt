@@ -2,7 +2,7 @@
 ghost use Rattle.std.specs.Prelude.{◌≡◌, ◌+◌, ◌≤◌, length, map, vec_capacity, []};
 ghost use Rattle.xa_lane.specs.Senders.{but_full};
 ghost use Rattle.xa_desk.specs.DeskViews.{outstanding, sent_to, collected_from};
-ghost use Rattle.xa_desk.specs.Ended.{Ends, IsEnded, AreBalanced};
+ghost use Rattle.xa_desk.specs.Ended.{Ends, IsEndedDesk, AreBalanced};
 ghost use Rattle.xa_desk.specs.Lanes.{IsDesk};
 ghost use Rattle.xa_desk.specs.Waits.{MarksEnd, MarkEnds};
 
@@ -113,7 +113,7 @@ impl EndedDesk {
         ensures requests { result.requests.items ≡ self.requests }
         ensures completions { result.completions ≡ self.completions }
         ensures ledgers { result.ledgers.items ≡ self.ledgers }
-        ensures known { IsEnded self }
+        ensures known { IsEndedDesk self }
     {
         let EndedDesk {
             thread: _,

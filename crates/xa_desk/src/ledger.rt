@@ -1,5 +1,5 @@
 //! A desk's ledger with one manager.
-ghost use Rattle.std.specs.Prelude.{◌≡◌, ◌-◌, ◌<◌, ◌≤◌, [], ◌∷◌, ◌++◌, length, IfOk};
+ghost use Rattle.std.specs.Prelude.{◌≡◌, ◌-◌, ◌^◌, ◌<◌, ◌≤◌, [], ◌∷◌, ◌++◌, length, IfOk};
 ghost use Rattle.xa_desk.specs.LedgerViews.{new_ledger, learnt_shut, with_sent, with_collected};
 ghost use Rattle.xa_desk.specs.Lanes.{new_ledgers};
 
@@ -60,13 +60,22 @@ impl Ledger {
         self.learnt_shut
     }
 
+    /// What holds of every ledger: no more requests were sent than are planned, and these can be numbered. A law:
+    /// nothing is done.
+    #[inline(always)]
+    fn is_planned(&self)
+        ensures { (length self.now.sent ≤ self.now.plan) × (self.now.plan < 2 ^ 32) }
+    {
+        let _inside = self.plan;
+    }
+
     /// How many requests were sent, which is the number of the next.
     #[inline(always)]
     pub(crate) fn next_number(&self) -> u32
         ensures sent { result ≡ length self.now.sent }
         ensures planned { result ≤ self.now.plan }
     {
-        let _plan = self.plan;
+        self.is_planned();
         self.sent.len() as u32
     }
 

@@ -2,7 +2,8 @@
 //! where a slot is.
 ghost use Rattle.std.specs.Prelude.{◌≡◌, ◌<◌, length, replicate, slice_get, IfOk, ◌≢◌, ℕ, Some, None, IfSome, IfNone};
 ghost use Rattle.std.specs.Prelude.{OnSome, is_some};
-ghost use Rattle.xa_desk.specs.Slots.{no_keys, with_key, key_at, HasSlot, HasKept, AreTold, EntersCode, EntersHandle};
+ghost use Rattle.xa_desk.specs.Slots.{no_keys, with_key, key_of_operation, HasSlot, HasKept, AreTold, EntersCode};
+ghost use Rattle.xa_desk.specs.Slots.{EntersHandle};
 ghost use Rattle.slab.specs.Slab.{get};
 
 use crate::book::Book;
@@ -174,7 +175,7 @@ pub(crate) fn reserve_keys(
 /// The key of the slot that the operation has if it is outstanding.
 #[inline(always)]
 pub(crate) fn key_of(rows: &Vec<SlotKeys>, operation: Operation) -> Option<usize>
-    ensures { result ≡ key_at rows.now.items operation }
+    ensures { result ≡ key_of_operation rows.now.items operation }
 {
     let row = rows.get((operation.manager as usize).saturating_sub(1))?;
     row.key(operation.number)

@@ -26,11 +26,11 @@ pub struct DeskParts {
 
 impl Model for DeskParts {
     ghost use Rattle.xa_desk.specs.Lanes.{PartsView};
-    ghost use Rattle.xa_desk.specs.Parts.{parts_of, AreParts};
+    ghost use Rattle.xa_desk.specs.Parts.{parts_view, AreParts};
 
     ghost Value = { PartsView };
 
-    ghost view = { parts_of };
+    ghost view = { parts_view };
 
     ghost invariant = { AreParts };
 }

@@ -13,8 +13,8 @@ use Rattle.xa_disk.specs.declared.backing.DeviceFault.{DeviceFault}
 use Rattle.xa_disk.specs.declared.backing.DeviceFault.TheVariants as device
 use Rattle.xa_disk.specs.declared.host.FileFault.{FileFault}
 use Rattle.xa_disk.specs.declared.host.FileFault.TheVariants as file
-use Rattle.xa_disk.specs.declared.write_through.OpenFault.{OpenFault}
-use Rattle.xa_disk.specs.declared.write_through.OpenFault.TheVariants as disk
+use Rattle.xa_disk.specs.declared.write_through.DiskOpenFault.{DiskOpenFault}
+use Rattle.xa_disk.specs.declared.write_through.DiskOpenFault.TheVariants as disk
 
 -- a call of a file failed so
 abbrev pub device_fault : Error → DeviceFault
@@ -41,7 +41,7 @@ of_opening opening.Busy = file.InUse
 of_opening opening.HotJournal = file.HotJournal
 
 -- there is no disk over one of them
-abbrev pub of_disk : OpenFault → FileFault
+abbrev pub of_disk : DiskOpenFault → FileFault
 of_disk disk.Memory = file.Memory
 of_disk disk.TooLarge = file.TooLarge
 of_disk (disk.Failed device.NoRoom) = file.NoRoom

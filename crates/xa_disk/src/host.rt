@@ -5,7 +5,7 @@ ghost use Rattle.xa_disk.specs.declared.backing.ReadFault.TheVariants as read;
 
 use crate::backing::{Backing, DeviceFault, ReadFault};
 use crate::notes::Notes;
-use crate::write_through::OpenFault;
+use crate::write_through::DiskOpenFault;
 use sqlite_disk::{Disk, is_no_room};
 use sqlite_std_file::{File, OpenError};
 use std::alloc::Global;
@@ -57,15 +57,15 @@ impl From<OpenError> for FileFault {
     }
 }
 
-impl From<OpenFault> for FileFault {
+impl From<DiskOpenFault> for FileFault {
     ghost from_gives = { λ of_file fault. fault ≡ of_disk of_file };
 
-    fn from(fault: OpenFault) -> FileFault {
+    fn from(fault: DiskOpenFault) -> FileFault {
         match fault {
-            OpenFault::Memory => FileFault::Memory,
-            OpenFault::TooLarge => FileFault::TooLarge,
-            OpenFault::Failed(DeviceFault::NoRoom) => FileFault::NoRoom,
-            OpenFault::Failed(DeviceFault::Failed) => FileFault::Failed,
+            DiskOpenFault::Memory => FileFault::Memory,
+            DiskOpenFault::TooLarge => FileFault::TooLarge,
+            DiskOpenFault::Failed(DeviceFault::NoRoom) => FileFault::NoRoom,
+            DiskOpenFault::Failed(DeviceFault::Failed) => FileFault::Failed,
         }
     }
 }
@@ -87,20 +87,14 @@ fn of_kind(kind: io::ErrorKind) -> FileFault
 }
 
 // Why a call of a file failed.
-fn fault_of(error: &io::Error) -> DeviceFault
-    ensures { result ≡ device_fault error.now }
-{
-    if is_no_room(error) {
-        return DeviceFault::NoRoom;
-    }
-    DeviceFault::Failed
-}
-
 impl From<io::Error> for DeviceFault {
     ghost from_gives = { λ error fault. fault ≡ device_fault error };
 
     fn from(error: io::Error) -> DeviceFault {
-        fault_of(&error)
+        if is_no_room(&error) {
+            return DeviceFault::NoRoom;
+        }
+        DeviceFault::Failed
     }
 }
 

@@ -33,4 +33,4 @@ pub use backing::{Backing, DeviceFault, ReadFault};
 pub use host::{FileFault, HostFile};
 pub use opening::{DiskFiles, open_files};
 pub use tape::{Tape, Tear};
-pub use write_through::{OpenFault, WriteThrough};
+pub use write_through::{DiskOpenFault, WriteThrough};

@@ -8,7 +8,7 @@ ghost use Rattle.sqlite_disk.specs.History.{MayLeave, step_from, steps_of};
 ghost use Rattle.sqlite_disk.specs.Refusal.{finds_no_room};
 ghost use Rattle.xa_disk.specs.{overwritten, part, remembered, resized};
 ghost use Rattle.xa_disk.specs.declared.backing.DeviceFault.TheVariants as device;
-ghost use Rattle.xa_disk.specs.declared.write_through.OpenFault.TheVariants.{Failed, Memory, TooLarge};
+ghost use Rattle.xa_disk.specs.declared.write_through.DiskOpenFault.TheVariants.{Failed, Memory, TooLarge};
 
 use crate::backing::{Backing, DeviceFault, ReadFault};
 use http_server::Log;
@@ -18,7 +18,7 @@ use std::io;
 
 /// Why there is no disk over a file.
 #[derive(Clone, Copy, Debug, PartialEq, Eq)]
-pub enum OpenFault {
+pub enum DiskOpenFault {
     /// There was no memory.
     Memory,
     /// The file has more bytes than may be read. It is left as it was.
@@ -27,22 +27,22 @@ pub enum OpenFault {
     Failed(DeviceFault),
 }
 
-impl From<ReadFault> for OpenFault {
+impl From<ReadFault> for DiskOpenFault {
     ghost from_gives = { λ _ fault. (fault ≡ Memory) ⊎ (fault ≡ Failed device.Failed) };
 
-    fn from(fault: ReadFault) -> OpenFault {
+    fn from(fault: ReadFault) -> DiskOpenFault {
         match fault {
-            ReadFault::Memory => OpenFault::Memory,
-            ReadFault::Failed => OpenFault::Failed(DeviceFault::Failed),
+            ReadFault::Memory => DiskOpenFault::Memory,
+            ReadFault::Failed => DiskOpenFault::Failed(DeviceFault::Failed),
         }
     }
 }
 
-impl From<DeviceFault> for OpenFault {
+impl From<DeviceFault> for DiskOpenFault {
     ghost from_gives = { λ of_device fault. fault ≡ Failed of_device };
 
-    fn from(fault: DeviceFault) -> OpenFault {
-        OpenFault::Failed(fault)
+    fn from(fault: DeviceFault) -> DiskOpenFault {
+        DiskOpenFault::Failed(fault)
     }
 }
 
@@ -201,7 +201,11 @@ fn sync_file<B: Backing>(file: &mut B, has_failed: bool) -> Result<(), DeviceFau
 }
 
 // The bytes of a file that has at most so many, which are written once more and synced.
-fn kept_bytes<B: Backing>(alloc: Global, file: &mut B, most: usize) -> Result<Vec<u8>, OpenFault>
+fn kept_bytes<B: Backing>(
+    alloc: Global,
+    file: &mut B,
+    most: usize,
+) -> Result<Vec<u8>, DiskOpenFault>
     ensures found { IfOk result (λ v. v.items ≡ B.found file.new) }
     ensures few { IfOk result (λ v. length v.items ≤ most) }
     ensures given { IfOk result (λ v. B.given file.new ≡ v.items) }
@@ -211,7 +215,7 @@ fn kept_bytes<B: Backing>(alloc: Global, file: &mut B, most: usize) -> Result<Ve
 {
     let size = file.size()?;
     if size > most as u64 {
-        return Err(OpenFault::TooLarge);
+        return Err(DiskOpenFault::TooLarge);
     }
     let bytes = file.read_all(alloc, size as usize)?;
     file.rewrite(&bytes)?;
@@ -222,7 +226,11 @@ fn kept_bytes<B: Backing>(alloc: Global, file: &mut B, most: usize) -> Result<Ve
 impl<B: Backing> WriteThrough<B> {
     /// A disk over a file of at most so many bytes. What is read of it is written once more, and synced
     /// (`Backing::rewrite`). An `Err` hands the file back.
-    pub fn new(alloc: Global, mut file: B, most: usize) -> Result<WriteThrough<B>, (OpenFault, B)>
+    pub fn new(
+        alloc: Global,
+        mut file: B,
+        most: usize,
+    ) -> Result<WriteThrough<B>, (DiskOpenFault, B)>
         ensures durable { IfOk result (λ disk. Only (⟦<WriteThrough<B> as Disk>⟧.seen disk)
             (⟦<WriteThrough<B> as Disk>⟧.may_leave disk)) }
         ensures usable { IfOk result (λ disk. IsTrue (⟦<WriteThrough<B> as Disk>⟧.is_usable disk)) }

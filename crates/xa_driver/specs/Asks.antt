@@ -31,11 +31,11 @@ pub record Ask : Type 0 where
   pub code : Option Code
 
 -- what is wanted of a branch as a request; it is committed in the second of two phases
-abbrev pub op_of : XidName → Wanted → Op
-op_of x wanted.Prepare = Prepare x
-op_of x wanted.Commit = Commit x false
-op_of x wanted.Rollback = Rollback x
-op_of x wanted.Forget = Forget x
+abbrev pub op_wanted : XidName → Wanted → Op
+op_wanted x wanted.Prepare = Prepare x
+op_wanted x wanted.Commit = Commit x false
+op_wanted x wanted.Rollback = Rollback x
+op_wanted x wanted.Forget = Forget x
 
 -- and then collected, under the number that it was sent with
 abbrev pub asked : LedgerView → Option Op → Option Code → LedgerView
@@ -187,9 +187,9 @@ LeavesOwned old new None = new ≡ old
 LeavesOwned old new (Some t) = LeavesOthers old new t.operation
 
 -- the operation of the ticket, if there is one, was kept under a number that was free
-abbrev pub Keeps : DeskView → DeskView → Option TicketView → Type 0
-Keeps old new None = new ≡ old
-Keeps old new (Some t) =
+abbrev pub KeepsTicket : DeskView → DeskView → Option TicketView → Type 0
+KeepsTicket old new None = new ≡ old
+KeepsTicket old new (Some t) =
     (n : ℕ) × ((map.get old.kept n ≡ None) × (new ≡ record old { kept = map.insert old.kept n t.operation }))
 
 -- What requests that were collected leave of a desk: it goes on, what is kept under its handles stays, and so does all

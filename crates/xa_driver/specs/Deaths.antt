@@ -1,6 +1,7 @@
 -- What a commit of several branches did whose coordinator died, and what was known of it then.
 use Rattle.std.specs.Prelude.{◌≡◌, ◌⊎◌, ℕ, zero, suc, ◌<◌, ◌≤◌, min, Bool, true, false, Option, None, Some, List}
-use Rattle.std.specs.Prelude.{[], ◌∷◌, length}
+use Rattle.std.specs.Prelude.{[], ◌∷◌, Vec, length}
+use Rattle.std.specs.Global.{Global}
 use Rattle.std.specs.FinMap as map
 use Rattle.xa_words.specs.Tran.{TranName}
 use Rattle.xa_words.specs.declared.code.Code.{Code}
@@ -15,10 +16,13 @@ use Rattle.xa_desk.specs.GoingOn.{GoesOn}
 use Rattle.xa_desk.specs.Kept.{AllKept}
 use Rattle.xa_calls.specs.Scans.{Asking}
 use Rattle.xa_driver.specs.declared.branch.Branch.{Branch}
+use Rattle.xa_driver.specs.declared.done.Decision.{Decision}
 use Rattle.xa_driver.specs.declared.done.Done.{Done}
+use Rattle.xa_driver.specs.declared.done.LastKnown.{LastKnown}
+use Rattle.xa_driver.specs.declared.done.LastKnown.TheVariants.{Votes, Decided, Told}
 use Rattle.xa_driver.specs.Course.{VotesAndObeys, VotesThen}
 use Rattle.xa_driver.specs.Endings.{second_op}
-use Rattle.xa_driver.specs.Stages.{IsUndecided}
+use Rattle.xa_driver.specs.Decision.{yes_of}
 use Rattle.xa_driver.specs.Trace.{AppendsOnce, EachBranch, IsDecidedBy, has_branch_at}
 use Rattle.xa_driver.specs.UnderWay.{LeavesKept}
 use Rattle.xa_log.specs.Log.{LogState}
@@ -50,10 +54,10 @@ HaveAsked asking putting (b ∷ bs) (v ∷ vs) old new =
 
 -- What is wanted of a manager, if anything is, was put to it: it was answered while there were answers to come, and
 -- else it was put and no more.
-abbrev pub Tells : {D : Type 0} → Asking D → Putting D → ℕ → Option Op → D → D → Type 0
-Tells asking putting k None old new = new ≡ old
-Tells asking putting zero (Some op) old new = putting old op new
-Tells asking putting (suc k) (Some op) old new = (code : Code) × asking old op new code
+abbrev pub AsksOrPuts : {D : Type 0} → Asking D → Putting D → ℕ → Option Op → D → D → Type 0
+AsksOrPuts asking putting k None old new = new ≡ old
+AsksOrPuts asking putting zero (Some op) old new = putting old op new
+AsksOrPuts asking putting (suc k) (Some op) old new = (code : Code) × asking old op new code
 
 -- so many answers are to come after it
 abbrev pub to_come : Option Op → ℕ → ℕ
@@ -63,7 +67,7 @@ to_come (Some op) (suc k) = k
 
 -- A branch has voted, and was told the decision where it wants it.
 abbrev pub VotesAndHears : {D : Type 0} → Asking D → Putting D → Bool → ℕ → Branch → Code → D → D → Type 0
-VotesAndHears asking putting commit k = VotesThen asking (Tells asking putting k) commit
+VotesAndHears asking putting commit k = VotesThen asking (AsksOrPuts asking putting k) commit
 
 -- Each branch has voted, and was told the decision where it wants it; so many of those that want it have answered.
 abbrev pub HaveTold : {D : Type 0} → Asking D → Putting D → Bool → ℕ → List Branch → List Code → (ℕ → D) → (ℕ → D)
@@ -79,54 +83,52 @@ HaveTold asking putting commit k (b ∷ bs) (v ∷ vs) old new =
 
 -- So many branches have voted, and nothing was decided.
 pub record CameToVotes {D : Type 0} (asking : Asking D) (putting : Putting D) (count : ℕ) (bs : List Branch)
-    (old new : ℕ → D) (log later : LogState) (known : Done) : Type 0 where
-  pub asked : HaveAsked asking putting bs known.votes.items old new
-  pub counted : length known.votes.items ≡ count
-  pub undecided : IsUndecided known
+    (old new : ℕ → D) (log later : LogState) (votes : List Code) : Type 0 where
+  pub asked : HaveAsked asking putting bs votes old new
+  pub counted : length votes ≡ count
   pub unlogged : later ≡ log
-  pub endings : known.endings.items ≡ []
 
 -- All have voted, and it was decided; no branch was told.
 pub record CameToDecision {D : Type 0} (asking : Asking D) (putting : Putting D) (tran : TranName) (bs : List Branch)
-    (old new : ℕ → D) (log later : LogState) (known : Done) : Type 0 where
-  pub asked : HaveAsked asking putting bs known.votes.items old new
-  pub counted : length known.votes.items ≡ length bs
-  pub decided : IsDecidedBy tran bs log later known
-  pub endings : known.endings.items ≡ []
+    (old new : ℕ → D) (log later : LogState) (decision : Decision) (votes : List Code) : Type 0 where
+  pub asked : HaveAsked asking putting bs votes old new
+  pub counted : length votes ≡ length bs
+  pub decided : IsDecidedBy tran bs log later votes decision.commit decision.logged
 
 -- It was decided, and all that want the decision were told; so many of them have answered.
 pub record CameToAnswers {D : Type 0} (asking : Asking D) (putting : Putting D) (count : ℕ) (tran : TranName)
-    (bs : List Branch) (old new : ℕ → D) (log later : LogState) (known : Done) : Type 0 where
-  pub told : HaveTold asking putting known.commit count bs known.votes.items old new
-  pub decided : IsDecidedBy tran bs log later known
-  pub endings : known.endings.items ≡ []
+    (bs : List Branch) (old new : ℕ → D) (log later : LogState) (decision : Decision) (votes : List Code)
+    : Type 0 where
+  pub told : HaveTold asking putting decision.commit count bs votes old new
+  pub decided : IsDecidedBy tran bs log later votes decision.commit decision.logged
 
 -- It was decided, all that want the decision were told, and all have answered. None was told to forget anything.
 pub record CameToEndings {D : Type 0} (asking : Asking D) (tran : TranName) (bs : List Branch) (old new : ℕ → D)
-    (log later : LogState) (known : Done) : Type 0 where
+    (log later : LogState) (done : Done) : Type 0 where
   pub seconds : List (Option Code)
-  pub each : EachBranch (λ b v s e. VotesAndObeys asking known.commit b v s e (old b.m) (new b.m)) bs known.votes.items
-      seconds known.endings.items
-  pub decided : IsDecidedBy tran bs log later known
+  pub each : EachBranch (λ b v s e. VotesAndObeys asking done.commit b v s e (old b.m) (new b.m)) bs done.votes.items
+      seconds done.endings.items
+  pub decided : IsDecidedBy tran bs log later done.votes.items done.commit done.logged
 
 -- How far a commit came whose coordinator died at this point, and what was known of it then.
 abbrev pub CameTo : {D : Type 0} → Asking D → Putting D → Death → TranName → List Branch → (ℕ → D) → (ℕ → D) → LogState
-    → LogState → Done → Type 0
-CameTo asking putting (death.Preparing k) tran bs old new log later known =
-    CameToVotes asking putting (min k (length bs)) bs old new log later known
-CameTo asking putting death.Prepared tran bs old new log later known =
-    CameToVotes asking putting (length bs) bs old new log later known
-CameTo asking putting death.Decided tran bs old new log later known =
-    CameToDecision asking putting tran bs old new log later known
-CameTo asking putting (death.Telling k) tran bs old new log later known =
-    CameToAnswers asking putting k tran bs old new log later known
-CameTo asking putting death.Told tran bs old new log later known =
-    CameToEndings asking tran bs old new log later known
+    → LogState → LastKnown → Type 0
+CameTo asking putting (death.Preparing k) tran bs old new log later (Votes votes) =
+    CameToVotes asking putting (min k (length bs)) bs old new log later votes.items
+CameTo asking putting death.Prepared tran bs old new log later (Votes votes) =
+    CameToVotes asking putting (length bs) bs old new log later votes.items
+CameTo asking putting death.Decided tran bs old new log later (Decided decision votes) =
+    CameToDecision asking putting tran bs old new log later decision votes.items
+CameTo asking putting (death.Telling k) tran bs old new log later (Decided decision votes) =
+    CameToAnswers asking putting k tran bs old new log later decision votes.items
+CameTo asking putting death.Told tran bs old new log later (Told done) =
+    CameToEndings asking tran bs old new log later done
+CameTo asking putting at tran bs old new log later known = ⊥
 
 -- What a commit of these branches did whose coordinator died at this point, over states of each manager, and what was
 -- known of it then. At other managers it did nothing.
 pub record Dies {D : Type 0} (asking : Asking D) (putting : Putting D) (at : Death) (tran : TranName) (bs : List Branch)
-    (old new : ℕ → D) (log later : LogState) (known : Done) : Type 0 where
+    (old new : ℕ → D) (log later : LogState) (known : LastKnown) : Type 0 where
   pub far : CameTo asking putting at tran bs old new log later known
   pub others : (m : ℕ) → 1 ≤ m → has_branch_at bs m ≡ false → new m ≡ old m
 
@@ -139,10 +141,19 @@ is_decided_by death.Prepared = false
 is_decided_by other = true
 
 -- What it does to the log itself: what the decision does, if it came to one, and else nothing.
-pub record AppendsUntil {L : Type 0} (appends : TranName → List Bool → Bool → L → L → Type 0) (at : Death)
-    (tran : TranName) (yes : List Bool) (votes : List Code) (logged : Bool) (old new : L) : Type 0 where
-  pub decided : is_decided_by at ≡ true → AppendsOnce appends tran yes votes logged old new
-  pub undecided : is_decided_by at ≡ false → new ≡ old
+abbrev pub AppendsUntil : {L : Type 0} → (TranName → List Bool → Bool → L → L → Type 0) → TranName → List Branch
+    → LastKnown → L → L → Type 0
+AppendsUntil appends tran bs (Votes votes) old new = new ≡ old
+AppendsUntil appends tran bs (Decided decision votes) old new =
+    AppendsOnce appends tran (yes_of bs votes.items) votes.items decision.logged old new
+AppendsUntil appends tran bs (Told done) old new =
+    AppendsOnce appends tran (yes_of bs done.votes.items) done.votes.items done.logged old new
+
+-- it came to this decision by these votes
+abbrev pub KnowsDecision : Decision → Vec Code Global → LastKnown → Type 0
+KnowsDecision d vs (Votes votes) = ⊥
+KnowsDecision d vs (Decided decision votes) = (decision.logged ≡ d.logged) × (votes ≡ vs)
+KnowsDecision d vs (Told done) = (done.logged ≡ d.logged) × (done.votes ≡ vs)
 
 -- how many requests these lists have, manager by manager
 abbrev pub sent_so_far : List LedgerView → ℕ → ℕ

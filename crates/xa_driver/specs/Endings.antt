@@ -8,6 +8,8 @@ use Rattle.xa_words.specs.declared.request.Op.TheVariants.{Commit, Rollback, For
 use Rattle.xa_words.specs.Codes.{is_done, is_rolled_back}
 use Rattle.xa_desk.specs.LedgerViews.{is_rm_fail}
 use Rattle.xa_driver.specs.declared.done.Ending.{Ending}
+use Rattle.xa_driver.specs.declared.rounds.Vote.{Vote}
+use Rattle.xa_driver.specs.declared.rounds.Vote.TheVariants as vote
 use Rattle.xa_driver.specs.declared.done.Ending.TheVariants.{Committed, ReadOnly, RolledBack, InDoubt, Heuristic, Left}
 use Rattle.xa_driver.specs.Decision.{is_yes, is_read}
 
@@ -31,11 +33,25 @@ is_decided HeurRb = true
 is_decided HeurCom = true
 is_decided c = false
 
+-- what the code of a Prepare is to the coordinator
+abbrev pub vote_of : Code → Vote
+vote_of c =
+    if is_yes c then vote.Yes
+    else (if is_read c then vote.ReadOnly
+    else (if is_rolled_back c then vote.RolledBack
+    else (if is_out_of_reach c then vote.OutOfReach
+    else vote.No)))
+
 -- on commit the yes branches are committed; on abort each branch is rolled back that may still be there
+abbrev pub second_by : Bool → XidName → Vote → Option Op
+second_by true x vote.Yes = Some (Commit x false)
+second_by true x v = None
+second_by false x vote.Yes = Some (Rollback x)
+second_by false x vote.No = Some (Rollback x)
+second_by false x v = None
+
 abbrev pub second_op : Bool → XidName → Code → Option Op
-second_op commit x vote =
-    if commit then (if is_yes vote then Some (Commit x false) else None)
-    else (if is_read vote || (is_rolled_back vote || is_out_of_reach vote) then None else Some (Rollback x))
+second_op commit x c = second_by commit x (vote_of c)
 
 -- after the second round each branch is forgotten whose decision its manager keeps
 abbrev pub third_op : XidName → Option Code → Option Op
@@ -56,10 +72,12 @@ no_ending vote (Some c) =
     if is_done c || is_rolled_back c then RolledBack else (if is_heuristic c then Heuristic c else Left c)
 
 -- the ending of a branch by its vote and the code of its second request
+abbrev pub ending_by : Bool → Code → Option Code → Vote → Ending
+ending_by commit c second vote.Yes = yes_ending commit second
+ending_by commit c second vote.ReadOnly = ReadOnly
+ending_by commit c second vote.RolledBack = RolledBack
+ending_by commit c second vote.OutOfReach = Left c
+ending_by commit c second vote.No = no_ending c second
+
 abbrev pub ending_of : Bool → Code → Option Code → Ending
-ending_of commit vote second =
-    if is_yes vote then yes_ending commit second
-    else (if is_read vote then ReadOnly
-    else (if is_rolled_back vote then RolledBack
-    else (if is_out_of_reach vote then Left vote
-    else no_ending vote second)))
+ending_of commit c second = ending_by commit c second (vote_of c)

@@ -87,8 +87,8 @@ requests_for [] = 0
 requests_for (x ∷ xs) = 1 + 2 * length (x ∷ xs)
 
 -- how many branches are left at the first n managers
-abbrev pub left_in : ScanView → ℕ → ℕ
-left_in z n = sum_by (λ m. length (left_at z m)) (range_with_len 1 n)
+abbrev pub left_up_to : ScanView → ℕ → ℕ
+left_up_to z n = sum_by (λ m. length (left_at z m)) (range_with_len 1 n)
 
 -- the plan has room for them at each manager
 pub record MayResolve (d : DeskView) (z : ScanView) : Type 0 where

@@ -6,7 +6,7 @@ use Rattle.xa_desk.specs.DeskViews.{DeskView, TicketView}
 use Rattle.xa_driver.specs.Asks.{Ask}
 use Rattle.xa_driver.specs.declared.round.Round.{Round}
 use Rattle.xa_driver.specs.Idling.{IdlesToCollect, IdlesToSend}
-use Rattle.xa_driver.specs.UnderWay.{Collects, Sends, Stays, next_ask, next_ticket}
+use Rattle.xa_driver.specs.UnderWay.{CollectsAsk, SendsAsk, Stays, next_ask, next_ticket}
 
 -- there is a next one, and nothing is asked of it
 abbrev pub is_passed : Option Ask → Bool
@@ -22,9 +22,9 @@ abbrev pub next_collected : Round → Option Ask
 next_collected r = asked_first r.tickets.items r
 
 -- how many of these are asked anything
-abbrev pub asked_in : List Ask → ℕ
-asked_in [] = 0
-asked_in (k ∷ ks) = if is_none k.op then asked_in ks else suc (asked_in ks)
+abbrev pub count_asked : List Ask → ℕ
+count_asked [] = 0
+count_asked (k ∷ ks) = if is_none k.op then count_asked ks else suc (count_asked ks)
 
 -- From one round to the other those were passed over that came next and are asked nothing, each by this step.
 pub data Passes (step : Ask → Round → Round → Type 0) (old : Round) : Round → Type 0 where
@@ -33,10 +33,10 @@ pub data Passes (step : Ask → Round → Round → Type 0) (old : Round) : Roun
 
 -- it came next, and was put among those in flight without a request; or it came next, and was collected without one
 abbrev pub SendsNothing : DeskView → Ask → Round → Round → Type 0
-SendsNothing desk k old new = (next_ask old ≡ Some k) × Sends k old new desk desk
+SendsNothing desk k old new = (next_ask old ≡ Some k) × SendsAsk k old new desk desk
 
 abbrev pub CollectsNothing : DeskView → Ask → Round → Round → Type 0
-CollectsNothing desk k old new = (next_collected old ≡ Some k) × Collects None old new desk desk
+CollectsNothing desk k old new = (next_collected old ≡ Some k) × CollectsAsk None old new desk desk
 
 -- The next request was sent, and the idles were on its manager, after each time that its lane was found full; or there
 -- is none.
@@ -46,7 +46,7 @@ pub record SendsNext {I : Type 0} (by : ℕ → I → I → Type 0) (old new : R
   pub passed : Passes (SendsNothing desk) old mid
   pub asks : is_passed (next_ask mid) ≡ false
   pub sends : MatchOption (next_ask mid) ((sent ≡ false) × Stays mid new desk now)
-      (λ k. (sent ≡ true) × Sends k mid new desk now)
+      (λ k. (sent ≡ true) × SendsAsk k mid new desk now)
   pub waited : MatchOption (next_ask mid) (after ≡ before) (λ k. IdlesToSend by k desk now before after)
 
 -- The request that is longest in flight was collected, and the idles were on its manager, after each look that ended
@@ -57,5 +57,5 @@ pub record CollectsNext {I : Type 0} (by : ℕ → I → I → Type 0) (old new 
   pub passed : Passes (CollectsNothing desk) old mid
   pub asks : is_passed (next_collected mid) ≡ false
   pub collects : MatchOption (next_ticket mid) ((collected ≡ false) × Stays mid new desk now)
-      (λ t. (collected ≡ true) × Collects t mid new desk now)
+      (λ t. (collected ≡ true) × CollectsAsk t mid new desk now)
   pub waited : MatchOption (next_ticket mid) (after ≡ before) (λ t. IdlesToCollect by t desk now before after)

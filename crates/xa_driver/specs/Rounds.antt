@@ -16,13 +16,19 @@ abbrev pub first_ask : Branch → Ask
 first_ask b = record { manager = b.m; xid = b.xid; vote = RmFail; op = Some (Prepare b.xid); code = None }
 
 -- its vote; a Prepare that wasn't sent counts as XAER_RMFAIL
-abbrev pub code_of : Ask → Code
-code_of k = unwrap_or k.code RmFail
+abbrev pub code_of_ask : Ask → Code
+code_of_ask k = unwrap_or k.code RmFail
 
 -- what it is asked by the decision and its vote
 abbrev pub second_ask : Bool → Ask → Ask
 second_ask commit k =
-    record { manager = k.manager; xid = k.xid; vote = code_of k; op = second_op commit k.xid (code_of k); code = None }
+    record {
+      manager = k.manager;
+      xid = k.xid;
+      vote = code_of_ask k;
+      op = second_op commit k.xid (code_of_ask k);
+      code = None;
+    }
 
 -- what it is asked last, by its second code
 abbrev pub third_ask : Ask → Ask
@@ -34,7 +40,7 @@ ending_of_ask commit k = ending_of commit k.vote k.code
 
 -- the branch at the manager voted yes
 abbrev pub asked_yes : ℕ → List Ask → Bool
-asked_yes m ks = list_any (λ k. (k.manager == m) && is_yes (code_of k)) ks
+asked_yes m ks = list_any (λ k. (k.manager == m) && is_yes (code_of_ask k)) ks
 
 -- the managers that voted yes
 abbrev pub yes_asked : List Ask → List Bool

@@ -53,8 +53,8 @@ abbrev pub HaveRoom : List LedgerView → List Branch → Type 0
 HaveRoom at [] = Unit {0}
 HaveRoom at (b ∷ bs) = HasRoom at b.m × HaveRoom at bs
 
--- when the branches may be committed
-pub record MayCommit (d : DeskView) (log : LogState) (bs : List Branch) : Type 0 where
+-- when the branches may be asked to prepare
+pub record MayPrepare (d : DeskView) (bs : List Branch) : Type 0 where
   pub some : 1 ≤ length bs
   pub most : length bs ≤ MOST_MANAGERS
   pub rising : AreBranchesRising 0 bs
@@ -62,6 +62,11 @@ pub record MayCommit (d : DeskView) (log : LogState) (bs : List Branch) : Type 0
   pub free : outstanding d.ledgers + length bs ≤ d.handles
   pub tran : TranName
   pub one : IsTranOf bs tran
+
+-- when they may be committed
+pub record MayCommit (d : DeskView) (log : LogState) (bs : List Branch) : Type 0 where
+  pub prepare : MayPrepare d bs
+  pub open prepare use *
   pub absent : record_of log tran ≡ None
 
 -- the votes want a record: they decide commit, and one is yes
@@ -96,9 +101,10 @@ abbrev pub decision_of : List Code → Bool → Bool
 decision_of votes logged = decides_commit votes && (not (has_yes votes) || logged)
 
 -- It was decided by the votes, and a record was logged where they want one and the log took it.
-pub record IsDecidedBy (tran : TranName) (bs : List Branch) (log later : LogState) (known : Done) : Type 0 where
-  pub decision : known.commit ≡ decision_of known.votes.items known.logged
-  pub logs : Logs tran (yes_of bs known.votes.items) known.votes.items known.logged log later
+pub record IsDecidedBy (tran : TranName) (bs : List Branch) (log later : LogState) (votes : List Code)
+    (commit logged : Bool) : Type 0 where
+  pub decision : commit ≡ decision_of votes logged
+  pub logs : Logs tran (yes_of bs votes) votes logged log later
 
 -- What a commit of the branches did, over states of each manager: at each branch what that branch wants, and at no
 -- other manager anything.
@@ -108,10 +114,10 @@ pub record Commits {D : Type 0} (asking : Asking D) (tran : TranName) (bs : List
   pub each : EachBranch (λ b v s e. AtBranch asking d.commit b v s e (old b.m) (new b.m)) bs d.votes.items seconds
       d.endings.items
   pub others : (m : ℕ) → 1 ≤ m → has_branch_at bs m ≡ false → new m ≡ old m
-  pub decided : IsDecidedBy tran bs log log' d
+  pub decided : IsDecidedBy tran bs log log' d.votes.items d.commit d.logged
   pub open decided use *
 
--- What a commit_all of the branches left is its trace: its course over the desk's ledgers, one for each manager.
+-- What a commit of the branches left is its trace: its course over the desk's ledgers, one for each manager.
 pub record IsTraceOfCommit (tran : TranName) (bs : List Branch) (old new : List LedgerView) (log log' : LogState)
     (d : Done) : Type 0 where
   pub course : Commits AsksLedger tran bs (ledger old) (ledger new) log log' d

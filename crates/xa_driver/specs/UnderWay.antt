@@ -42,11 +42,11 @@ abbrev pub sent_count : Round → ℕ
 sent_count r = r.collected + length r.tickets.items
 
 -- all were sent, and all were collected
-abbrev pub IsSent : Round → Type 0
-IsSent r = length r.asks.items ≤ sent_count r
+abbrev pub AllAreSent : Round → Type 0
+AllAreSent r = length r.asks.items ≤ sent_count r
 
-abbrev pub IsCollected : Round → Type 0
-IsCollected r = length r.asks.items ≤ r.collected
+abbrev pub AllAreCollected : Round → Type 0
+AllAreCollected r = length r.asks.items ≤ r.collected
 
 -- what is asked next, if anything is, and what is collected next
 abbrev pub next_ask : Round → Option Ask
@@ -58,7 +58,7 @@ next_ticket r = slice_get r.tickets.items 0
 -- ---- what is done of it
 
 -- a round of these requests at the desk, of which none is sent
-pub record Begins (asks : List Ask) (desk : DeskView) (r : Round) : Type 0 where
+pub record BeginsRound (asks : List Ask) (desk : DeskView) (r : Round) : Type 0 where
   pub under_way : IsUnderWay r desk
   pub before : r.before.value ≡ desk
   pub asks_are : r.asks.items ≡ asks
@@ -70,7 +70,7 @@ pub record Stays (old new : Round) (desk now : DeskView) : Type 0 where
   pub still : now ≡ desk
 
 -- the request was sent
-pub record Sends (k : Ask) (old new : Round) (desk now : DeskView) : Type 0 where
+pub record SendsAsk (k : Ask) (old new : Round) (desk now : DeskView) : Type 0 where
   pub ticket : Option TicketView
   pub began : BeginsAsk k desk now ticket
   pub tickets : new.tickets.items ≡ old.tickets.items ++ ticket ∷ []
@@ -79,16 +79,16 @@ pub record Sends (k : Ask) (old new : Round) (desk now : DeskView) : Type 0 wher
   pub collected : new.collected ≡ old.collected
 
 -- the ask with the code that it was answered
-abbrev pub coded : Ask → Option Code → Ask
-coded k code = record { manager = k.manager; xid = k.xid; vote = k.vote; op = k.op; code = code }
+abbrev pub with_code : Ask → Option Code → Ask
+with_code k code = record { manager = k.manager; xid = k.xid; vote = k.vote; op = k.op; code = code }
 
 -- the request that is longest in flight was collected
-pub record Collects (ticket : Option TicketView) (old new : Round) (desk now : DeskView) : Type 0 where
+pub record CollectsAsk (ticket : Option TicketView) (old new : Round) (desk now : DeskView) : Type 0 where
   pub ask : Ask
   pub place : slice_get old.asks.items old.collected ≡ Some ask
   pub code : Option Code
   pub ended : EndsAsk ask desk now ticket code
-  pub asks : new.asks.items ≡ slice_set old.asks.items old.collected (coded ask code)
+  pub asks : new.asks.items ≡ slice_set old.asks.items old.collected (with_code ask code)
   pub tickets : old.tickets.items ≡ ticket ∷ new.tickets.items
   pub left : LeavesOwned desk now ticket
   pub collected : new.collected ≡ old.collected + 1
@@ -109,16 +109,16 @@ pub record MayAsk (r : Round) (desk : DeskView) : Type 0 where
 -- ---- tickets that are left
 
 -- the tickets are of other operations than this one
-abbrev pub AreApart : Operation → List (Option TicketView) → Type 0
-AreApart o [] = Unit {0}
-AreApart o (None ∷ rs) = AreApart o rs
-AreApart o (Some t ∷ rs) = (t.operation ≢ o) × AreApart o rs
+abbrev pub AreOtherTickets : Operation → List (Option TicketView) → Type 0
+AreOtherTickets o [] = Unit {0}
+AreOtherTickets o (None ∷ rs) = AreOtherTickets o rs
+AreOtherTickets o (Some t ∷ rs) = (t.operation ≢ o) × AreOtherTickets o rs
 
 -- the desk owns each of the tickets, and each is of another operation
 abbrev pub OwnsAll : DeskView → List (Option TicketView) → Type 0
 OwnsAll d [] = Unit {0}
 OwnsAll d (None ∷ rs) = OwnsAll d rs
-OwnsAll d (Some t ∷ rs) = Owns d t × (AreApart t.operation rs × OwnsAll d rs)
+OwnsAll d (Some t ∷ rs) = Owns d t × (AreOtherTickets t.operation rs × OwnsAll d rs)
 
 -- one of the tickets is the operation's
 abbrev pub IsAmong : Operation → List (Option TicketView) → Type 0

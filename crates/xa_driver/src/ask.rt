@@ -7,9 +7,9 @@ ghost use Rattle.xa_desk.specs.DeskViews.{Owns, ledger, after_sent, next_operati
 ghost use Rattle.xa_desk.specs.GoingOn.{GoesOn};
 ghost use Rattle.xa_desk.specs.Lanes.{submitted, after_fulls};
 ghost use Rattle.xa_desk.specs.Waits.{Idles};
-ghost use Rattle.xa_driver.specs.Asks.{BeginsAsk, CanAsk, EndsAsk, KeepsDesk, Keeps, LeavesOwned, Owning};
+ghost use Rattle.xa_driver.specs.Asks.{BeginsAsk, CanAsk, EndsAsk, KeepsDesk, KeepsTicket, LeavesOwned, Owning};
 ghost use Rattle.xa_driver.specs.Idling.{IdlesToCollect, IdlesToSend};
-ghost use Rattle.xa_driver.specs.UnderWay.{coded};
+ghost use Rattle.xa_driver.specs.UnderWay.{with_code};
 
 use std::marker::Model;
 use std::sync::Wait;
@@ -39,7 +39,7 @@ pub(crate) struct Ask {
 
 impl Model for Ask {
     ghost use Rattle.std.specs.Prelude.{option_map};
-    ghost use Rattle.xa_driver.specs.Asks.{Ask, op_of};
+    ghost use Rattle.xa_driver.specs.Asks.{Ask, op_wanted};
 
     ghost Value = { Ask };
 
@@ -47,7 +47,7 @@ impl Model for Ask {
       manager = k.manager;
       xid = k.xid;
       vote = k.vote;
-      op = option_map (op_of k.xid) k.wanted;
+      op = option_map (op_wanted k.xid) k.wanted;
       code = k.code;
     } };
 }
@@ -69,7 +69,7 @@ impl Ask {
     /// It was answered so.
     #[inline(always)]
     pub(crate) fn enter(&mut self, code: Option<Code>)
-        ensures { self.new ≡ coded self.old code }
+        ensures { self.new ≡ with_code self.old code }
     {
         self.code = code;
     }
@@ -170,7 +170,7 @@ pub(crate) fn end<R: Wait, I: Idle>(
 /// Keeps the operation of the ticket under a handle, if there is one.
 pub(crate) fn keep(desk: &mut Desk, ticket: Option<Ticket>)
     requires { Owning desk.old ticket }
-    ensures kept { Keeps desk.old desk.new ticket }
+    ensures kept { KeepsTicket desk.old desk.new ticket }
     ensures goes_on { GoesOn desk.old desk.new }
     ensures others { LeavesOwned desk.old desk.new ticket }
 {

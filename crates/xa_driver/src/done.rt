@@ -1,8 +1,8 @@
-//! What became of a global transaction.
+//! What became of a global transaction, and what was known of it where its coordinator died.
 ghost use Rattle.std.specs.Prelude.{◌≡◌};
+ghost use Rattle.xa_driver.specs.Outcomes.{comes_to_commit, comes_to_death, ends_the_log, knows_commit};
 
-use std::alloc::AllocError;
-use xa_words::Code;
+use xa_words::{Code, Death};
 
 /// What became of a branch.
 #[derive(Clone, Copy, Debug, PartialEq, Eq)]
@@ -35,40 +35,79 @@ pub struct Done {
     pub endings: Vec<Ending>,
 }
 
-/// Why the branches were left as they were, and nothing was sent.
+/// A decision of a coordinator, by the votes.
 #[derive(Clone, Copy, Debug, PartialEq, Eq)]
-pub enum DriverFault {
-    /// Memory was refused.
-    NoMemory,
+pub struct Decision {
+    /// Whether to commit.
+    pub commit: bool,
+    /// Whether the log took a record of it.
+    pub logged: bool,
 }
 
-/// Why a commit came to no decision.
+/// What a coordinator knew of a commit as it died.
 #[derive(Debug, Drop)]
-pub enum CommitFault {
-    /// Memory was refused, and nothing was sent.
-    NoMemory,
+pub enum LastKnown {
+    /// Nothing was decided. The votes that it had collected, in the order of the branches.
+    Votes(Vec<Code>),
+    /// The votes of all branches, and the decision. No ending was known.
+    Decided {
+        decision: Decision,
+        votes: Vec<Code>,
+    },
+    /// All branches were told, and their endings are known.
+    Told(Done),
+}
+
+impl LastKnown {
+    /// Whether it was decided to commit.
+    pub fn is_to_commit(&self) -> bool
+        ensures { result ≡ knows_commit self.now }
+    {
+        match self {
+            LastKnown::Votes(_) => false,
+            LastKnown::Decided { decision, .. } => decision.commit,
+            LastKnown::Told(done) => done.commit,
+        }
+    }
+}
+
+/// What a commit came to.
+#[derive(Debug, Drop)]
+pub enum CommitOutcome {
+    /// It was decided, and all branches were told.
+    Decided(Done),
     /// Nobody knows whether the log has the record of the decision, so no branch was told any: each one that voted yes
     /// is in doubt, until what the log has once it is opened again resolves it. With the votes, in the order of the
     /// branches.
     Undecided(Vec<Code>),
+    /// The coordinator died at this point, when this was known. Requests may be outstanding: they are collected as the
+    /// desk ends.
+    Died { at: Death, known: LastKnown },
 }
 
-impl From<DriverFault> for CommitFault {
-    ghost use Rattle.xa_driver.specs.declared.done.CommitFault.TheVariants.{NoMemory};
-
-    ghost from_gives = { λ _ fault. fault ≡ NoMemory };
-
-    fn from(_fault: DriverFault) -> CommitFault {
-        CommitFault::NoMemory
+impl CommitOutcome {
+    /// Whether it was decided to commit.
+    pub fn is_to_commit(&self) -> bool
+        ensures { result ≡ comes_to_commit self.now }
+    {
+        match self {
+            CommitOutcome::Decided(done) => done.commit,
+            CommitOutcome::Undecided(_) => false,
+            CommitOutcome::Died { known, .. } => known.is_to_commit(),
+        }
     }
-}
 
-impl From<AllocError> for DriverFault {
-    ghost use Rattle.xa_driver.specs.declared.done.DriverFault.TheVariants.{NoMemory};
+    /// Whether the coordinator died with it.
+    pub fn has_died(&self) -> bool
+        ensures { result ≡ comes_to_death self.now }
+    {
+        matches!(self, CommitOutcome::Died { .. })
+    }
 
-    ghost from_gives = { λ _ fault. fault ≡ NoMemory };
-
-    fn from(_error: AllocError) -> DriverFault {
-        DriverFault::NoMemory
+    /// Whether no commit is to follow it with this log: the coordinator died with it, or the log has lost the record.
+    pub fn is_last(&self) -> bool
+        ensures { result ≡ ends_the_log self.now }
+    {
+        !matches!(self, CommitOutcome::Decided(_))
     }
 }

@@ -1,7 +1,7 @@
 //! A log that forgets: when the record of a commit may go, so that a log has those of commits in flight and in doubt
 //! alone.
 //!
-//! A coordinator that never calls these keeps every record, as `commit_all` and `resolve` leave them.
+//! A coordinator that never calls these keeps every record, as `commit` and `resolve` leave them.
 ghost use Rattle.std.specs.Prelude.{◌≡◌, ◌++◌, ◌+◌, ◌≤◌, true, false, IfOk, OnErr, OnOk, length, vec_capacity};
 ghost use Rattle.std.specs.List.{list_all};
 ghost use Rattle.xa_words.specs.Tran.{tran_of};

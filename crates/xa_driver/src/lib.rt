@@ -3,9 +3,8 @@
 
 mod ask;
 mod branch;
-mod commit;
+mod committing;
 mod done;
-mod dying;
 mod forgetful;
 mod may;
 mod resolved;
@@ -15,11 +14,10 @@ mod rounds;
 mod stages;
 
 pub use branch::Branch;
-pub use commit::commit_all;
-pub use done::{CommitFault, Done, DriverFault, Ending};
-pub use dying::commit_until;
+pub use committing::commit;
+pub use done::{CommitOutcome, Decision, Done, Ending, LastKnown};
 pub use forgetful::{forget_acknowledged, forget_resolved};
-pub use may::may_commit;
+pub use may::{may_commit, may_prepare};
 pub use resolved::{Outcome, ResolveFault, Resolved};
 pub use resolving::{may_resolve, resolve};
 pub use round::Round;

@@ -1,7 +1,7 @@
 //! When branches may be committed.
 ghost use Rattle.std.specs.Prelude.{◌≡◌, ◌↔◌, IsTrue, length};
 ghost use Rattle.xa_words.specs.Tran.{TranName, tran_of};
-ghost use Rattle.xa_driver.specs.Trace.{AreBranchesRising, HaveRoom, IsTranOf, MayCommit};
+ghost use Rattle.xa_driver.specs.Trace.{AreBranchesRising, HaveRoom, IsTranOf, MayCommit, MayPrepare};
 
 use crate::branch::Branch;
 use xa_base::MOST_MANAGERS;
@@ -50,11 +50,10 @@ fn is_tran_of(branches: &[Branch], tran: Tran) -> bool
     true
 }
 
-/// Whether `commit_all` may be called: 1 to 8 branches of one global transaction, at known managers in
-/// rising order, a free handle for each, room for three requests to each manager, and a log that is known to have no
-/// record yet.
-pub fn may_commit<L: DecisionLog>(desk: &Desk, log: &L, branches: &[Branch]) -> bool
-    ensures { IsTrue result ↔ (MayCommit desk.now (L.state log.now) branches.now × L.knows log.now) }
+/// Whether the branches may be asked to prepare: 1 to 8 branches of one global transaction, at known managers in rising
+/// order, a free handle for each, and room for three requests to each manager.
+pub fn may_prepare(desk: &Desk, branches: &[Branch]) -> bool
+    ensures { IsTrue result ↔ MayPrepare desk.now branches.now }
 {
     if branches.is_empty() || branches.len() > MOST_MANAGERS {
         return false;
@@ -68,9 +67,16 @@ pub fn may_commit<L: DecisionLog>(desk: &Desk, log: &L, branches: &[Branch]) -> 
     if (desk.free() as usize) < branches.len() {
         return false;
     }
-    let tran = branches[0].xid.tran();
-    if !is_tran_of(branches, tran) {
+    is_tran_of(branches, branches[0].xid.tran())
+}
+
+/// Whether `commit` may be called: the branches may be asked to prepare, and the log is known to have no record yet.
+#[tactic(auto, using(crate::proofs::Calls::no_record, crate::proofs::Calls::may_record))]
+pub fn may_commit<L: DecisionLog>(desk: &Desk, log: &L, branches: &[Branch]) -> bool
+    ensures { IsTrue result ↔ (MayCommit desk.now (L.state log.now) branches.now × L.knows log.now) }
+{
+    if !may_prepare(desk, branches) {
         return false;
     }
-    log.is_known() && log.has(&tran).is_none()
+    log.is_known() && log.has(&branches[0].xid.tran()).is_none()
 }

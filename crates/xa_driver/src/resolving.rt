@@ -11,7 +11,7 @@ ghost use Rattle.xa_driver.specs.Asks.{KeepsTheRest};
 ghost use Rattle.xa_driver.specs.Resolving.{is_to_commit, outcome_op, AsksLedger, AsksAlone};
 ghost use Rattle.xa_calls.specs.Scans.{AsksAndWaits};
 ghost use Rattle.xa_driver.specs.Resolving.{ResolvesBranch};
-ghost use Rattle.xa_driver.specs.Resolving.{ResolvesAt, ResolvesInTurn, requests_for, left_in, MayResolve};
+ghost use Rattle.xa_driver.specs.Resolving.{ResolvesAt, ResolvesInTurn, requests_for, left_up_to, MayResolve};
 ghost use Rattle.xa_driver.specs.Resolving.{IsTraceOfResolve};
 
 use crate::resolved::{Outcome, ResolveFault, Resolved};
@@ -135,7 +135,7 @@ fn resolve_at<R: Wait, L: DecisionRecords, I: Idle>(
 #[tactic(auto, using(crate::proofs::EachLeft::left_few, crate::proofs::EachLeft::left_more))]
 fn count_left(desk: &Desk, scan: &Scan) -> usize
     requires { MayResolve desk.now scan.now }
-    ensures { result ≡ left_in scan.now MOST_MANAGERS }
+    ensures { result ≡ left_up_to scan.now MOST_MANAGERS }
 {
     let mut count = 0;
     for before in 0..MOST_MANAGERS as u32 {

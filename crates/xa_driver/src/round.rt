@@ -6,11 +6,11 @@ ghost use Rattle.xa_desk.specs.GoingOn.{GoesOn};
 ghost use Rattle.xa_desk.specs.Kept.{AllKept};
 ghost use Rattle.xa_driver.specs.Asks.{Ask, AllCanAsk, AreRising, Asks, KeepsTheRest, SameAsks, among_asks};
 ghost use Rattle.xa_driver.specs.Idling.{IdlesAt, IdlesToCollect, IdlesToSend};
-ghost use Rattle.xa_driver.specs.RoundSteps.{CollectsNext, SendsNext, asked_in, is_passed, next_collected};
+ghost use Rattle.xa_driver.specs.RoundSteps.{CollectsNext, SendsNext, count_asked, is_passed, next_collected};
 ghost use Rattle.xa_driver.specs.RoundOrder.{CollectsFirst, GoesAsFar, SendsMore, SendsThenCollects};
-ghost use Rattle.xa_driver.specs.UnderWay.{AllKeptBut, Begins, Collects, IsAtRest, IsCollected, IsSent, IsUnderWay};
-ghost use Rattle.xa_driver.specs.UnderWay.{LeavesInFlight, MayAsk, OwnsAll, Sends, Stays, next_ask, next_ticket};
-ghost use Rattle.xa_driver.specs.UnderWay.{sent_count};
+ghost use Rattle.xa_driver.specs.UnderWay.{AllKeptBut, BeginsRound, CollectsAsk, IsAtRest, AllAreCollected, AllAreSent};
+ghost use Rattle.xa_driver.specs.UnderWay.{IsUnderWay, LeavesInFlight, MayAsk, OwnsAll, SendsAsk, Stays, next_ask};
+ghost use Rattle.xa_driver.specs.UnderWay.{next_ticket, sent_count};
 
 use crate::ask::{Ask, begin, end, keep};
 use std::alloc::{AllocError, Global};
@@ -68,7 +68,7 @@ impl Round {
         requires rising { AreRising 0 asks.items }
         requires can { AllCanAsk asks.items desk.now.ledgers }
         requires free { outstanding desk.now.ledgers + length asks.items ≤ desk.now.handles }
-        ensures begins { IfOk result (Begins asks.items desk.now) }
+        ensures begins { IfOk result (BeginsRound asks.items desk.now) }
     {
         let tickets = VecDeque::with_capacity(alloc, asks.len())?;
         Ok(Round {
@@ -84,7 +84,7 @@ impl Round {
     pub(crate) fn again(&mut self, desk: &Desk)
         requires rest { IsAtRest self.old }
         requires may { MayAsk self.old desk.now }
-        ensures { Begins self.old.asks.items desk.now self.new }
+        ensures { BeginsRound self.old.asks.items desk.now self.new }
     {
         self.before = Snapshot::of(desk);
         self.collected = 0;
@@ -119,7 +119,7 @@ impl Round {
         requires { IsUnderWay self.old desk.old }
         ensures under_way { IsUnderWay self.new desk.new }
         ensures sends { MatchOption (next_ask self.old) ((result ≡ false) × Stays self.old self.new desk.old desk.new)
-            (λ k. (result ≡ true) × Sends k self.old self.new desk.old desk.new) }
+            (λ k. (result ≡ true) × SendsAsk k self.old self.new desk.old desk.new) }
         ensures waited { MatchOption (next_ask self.old) (idle.new ≡ idle.old)
             (λ k. IdlesToSend I.leads_by k desk.old desk.new idle.old idle.new) }
         ensures before { self.new.before ≡ self.old.before }
@@ -157,7 +157,7 @@ impl Round {
         ensures under_way { IsUnderWay self.new desk.new }
         ensures collects { MatchOption (next_ticket self.old)
             ((result ≡ false) × Stays self.old self.new desk.old desk.new)
-            (λ t. (result ≡ true) × Collects t self.old self.new desk.old desk.new) }
+            (λ t. (result ≡ true) × CollectsAsk t self.old self.new desk.old desk.new) }
         ensures waited { MatchOption (next_ticket self.old) (idle.new ≡ idle.old)
             (λ t. IdlesToCollect I.leads_by t desk.old desk.new idle.old idle.new) }
         ensures before { self.new.before ≡ self.old.before }
@@ -198,7 +198,7 @@ impl Round {
     fn send_all<R: Wait, I: Idle>(&mut self, rt: &R, desk: &mut Desk, idle: &mut I)
         requires { IsUnderWay self.old desk.old }
         ensures under_way { IsUnderWay self.new desk.new }
-        ensures all { IsSent self.new }
+        ensures all { AllAreSent self.new }
         ensures long { length self.new.asks.items ≡ length self.old.asks.items }
         ensures before { self.new.before ≡ self.old.before }
         ensures same { (js : List Ask) → SameAsks js self.old.asks.items → SameAsks js self.new.asks.items }
@@ -216,9 +216,9 @@ impl Round {
     #[tactic(auto, using(crate::proofs::Progress::idles_start, crate::proofs::Progress::collects_nothing))]
     fn collect_all<R: Wait, I: Idle>(&mut self, rt: &R, desk: &mut Desk, idle: &mut I)
         requires under_way { IsUnderWay self.old desk.old }
-        requires all { IsSent self.old }
+        requires all { AllAreSent self.old }
         ensures under_way { IsUnderWay self.new desk.new }
-        ensures all { IsCollected self.new }
+        ensures all { AllAreCollected self.new }
         ensures long { length self.new.asks.items ≡ length self.old.asks.items }
         ensures before { self.new.before ≡ self.old.before }
         ensures same { (js : List Ask) → SameAsks js self.old.asks.items → SameAsks js self.new.asks.items }
@@ -232,14 +232,14 @@ impl Round {
     }
 
     // Collects the answers to the first so many requests, or to all where there are fewer.
-    fn collect_first<R: Wait, I: Idle>(&mut self, rt: &R, desk: &mut Desk, count: u32, idle: &mut I)
+    fn collect_first<R: Wait, I: Idle>(&mut self, rt: &R, desk: &mut Desk, count: u8, idle: &mut I)
         requires under_way { IsUnderWay self.old desk.old }
-        requires all { IsSent self.old }
+        requires all { AllAreSent self.old }
         requires none { self.old.collected ≡ 0 }
         ensures under_way { IsUnderWay self.new desk.new }
-        ensures all { IsSent self.new }
-        ensures first { asked_in (take self.new.collected self.new.asks.items)
-            ≡ min count (asked_in self.new.asks.items) }
+        ensures all { AllAreSent self.new }
+        ensures first { count_asked (take self.new.collected self.new.asks.items)
+            ≡ min count (count_asked self.new.asks.items) }
         ensures before { self.new.before ≡ self.old.before }
         ensures same { (js : List Ask) → SameAsks js self.old.asks.items → SameAsks js self.new.asks.items }
         ensures waited { IdlesAt I.leads_by (among_asks self.old.asks.items) idle.old idle.new }
@@ -261,15 +261,15 @@ impl Round {
         &mut self,
         rt: &R,
         desk: &mut Desk,
-        count: u32,
+        count: u8,
         idle: &mut I,
     )
         requires under_way { IsUnderWay self.old desk.old }
         requires none { sent_count self.old ≡ 0 }
         ensures under_way { IsUnderWay self.new desk.new }
-        ensures all { IsSent self.new }
-        ensures first { asked_in (take self.new.collected self.new.asks.items)
-            ≡ min count (asked_in self.new.asks.items) }
+        ensures all { AllAreSent self.new }
+        ensures first { count_asked (take self.new.collected self.new.asks.items)
+            ≡ min count (count_asked self.new.asks.items) }
         ensures before { self.new.before ≡ self.old.before }
         ensures same { (js : List Ask) → SameAsks js self.old.asks.items → SameAsks js self.new.asks.items }
         ensures waited { IdlesAt I.leads_by (among_asks self.old.asks.items) idle.old idle.new }

@@ -3,10 +3,11 @@ ghost use Rattle.std.specs.Prelude.{◌≡◌, ℕ, ◌≤◌, map, IfOk, length
 ghost use Rattle.std.specs.Prelude.{option_map};
 ghost use Rattle.std.specs.List.{list_any};
 ghost use Rattle.xa_words.specs.Xid.{XidName};
-ghost use Rattle.xa_driver.specs.Asks.{op_of};
-ghost use Rattle.xa_driver.specs.Decision.{is_yes, is_read, is_no};
-ghost use Rattle.xa_driver.specs.Endings.{second_op, third_op, ending_of, is_out_of_reach, is_heuristic, is_decided};
-ghost use Rattle.xa_driver.specs.Rounds.{first_ask, code_of, second_ask, third_ask, ending_of_ask, asked_yes};
+ghost use Rattle.xa_driver.specs.Asks.{op_wanted};
+ghost use Rattle.xa_driver.specs.Decision.{is_no, is_yes};
+ghost use Rattle.xa_driver.specs.Endings.{ending_of, is_decided, is_heuristic, no_ending, second_op, third_op, vote_of};
+ghost use Rattle.xa_driver.specs.Endings.{yes_ending};
+ghost use Rattle.xa_driver.specs.Rounds.{first_ask, code_of_ask, second_ask, third_ask, ending_of_ask, asked_yes};
 ghost use Rattle.xa_driver.specs.Rounds.{yes_asked};
 ghost use Rattle.xa_words.specs.Codes.{is_rolled_back};
 
@@ -16,16 +17,37 @@ use crate::done::Ending;
 use std::alloc::{AllocError, Global};
 use xa_words::{Code, ManagerSet};
 
+/// What the code of a Prepare is to the coordinator.
+#[derive(Clone, Copy)]
+pub(crate) enum Vote {
+    /// `XA_OK`: to commit.
+    Yes,
+    /// `XA_RDONLY`: the branch only read, and is gone.
+    ReadOnly,
+    /// `XA_RB*`: its manager rolled it back, and it is gone.
+    RolledBack,
+    /// `XAER_NOTA` or `XAER_RMFAIL`: there is no branch that could be told anything.
+    OutOfReach,
+    /// Any other: the branch may still be there.
+    No,
+}
+
+fn vote_of(code: Code) -> Vote
+    ensures { result ≡ vote_of code }
+{
+    match code {
+        Code::Done => Vote::Yes,
+        Code::RdOnly => Vote::ReadOnly,
+        Code::Nota | Code::RmFail => Vote::OutOfReach,
+        code if is_rolled_back(code) => Vote::RolledBack,
+        _ => Vote::No,
+    }
+}
+
 fn is_yes(code: Code) -> bool
     ensures { result ≡ is_yes code }
 {
     matches!(code, Code::Done)
-}
-
-fn is_read(code: Code) -> bool
-    ensures { result ≡ is_read code }
-{
-    matches!(code, Code::RdOnly)
 }
 
 fn is_rolled_back(code: Code) -> bool
@@ -42,12 +64,6 @@ fn is_rolled_back(code: Code) -> bool
             | Code::RbTimeout
             | Code::RbTransient
     )
-}
-
-fn is_out_of_reach(code: Code) -> bool
-    ensures { result ≡ is_out_of_reach code }
-{
-    matches!(code, Code::Nota | Code::RmFail)
 }
 
 fn is_heuristic(code: Code) -> bool
@@ -68,23 +84,18 @@ pub(crate) fn is_decided(code: Code) -> bool
 
 // What is wanted second of a branch with this vote.
 fn wanted_second(commit: bool, vote: Code) -> Option<Wanted>
-    ensures { (x : XidName) → option_map (op_of x) result ≡ second_op commit x vote }
+    ensures { (x : XidName) → option_map (op_wanted x) result ≡ second_op commit x vote }
 {
-    if commit {
-        if is_yes(vote) {
-            return Some(Wanted::Commit);
-        }
-        return None;
+    match (vote_of(vote), commit) {
+        (Vote::Yes, true) => Some(Wanted::Commit),
+        (Vote::Yes | Vote::No, false) => Some(Wanted::Rollback),
+        _ => None,
     }
-    if is_read(vote) || is_rolled_back(vote) || is_out_of_reach(vote) {
-        return None;
-    }
-    Some(Wanted::Rollback)
 }
 
 // What is wanted third of a branch with this second code.
 fn wanted_third(second: Option<Code>) -> Option<Wanted>
-    ensures { (x : XidName) → option_map (op_of x) result ≡ third_op x second }
+    ensures { (x : XidName) → option_map (op_wanted x) result ≡ third_op x second }
 {
     match second {
         Some(code) if is_decided(code) => Some(Wanted::Forget),
@@ -92,51 +103,47 @@ fn wanted_third(second: Option<Code>) -> Option<Wanted>
     }
 }
 
+// The ending of a branch that voted yes, by its second code.
+fn yes_ending(commit: bool, second: Option<Code>) -> Ending
+    ensures { result ≡ yes_ending commit second }
+{
+    match second {
+        None | Some(Code::RmFail) => Ending::InDoubt,
+        Some(Code::Done) if commit => Ending::Committed,
+        Some(Code::Done) => Ending::RolledBack,
+        Some(code) if is_heuristic(code) => Ending::Heuristic(code),
+        Some(code) => Ending::Left(code),
+    }
+}
+
+// The ending of a branch that voted no and may still have been there, by its second code.
+fn no_ending(vote: Code, second: Option<Code>) -> Ending
+    ensures { result ≡ no_ending vote second }
+{
+    match second {
+        None => Ending::Left(vote),
+        Some(Code::Done) => Ending::RolledBack,
+        Some(code) if is_rolled_back(code) => Ending::RolledBack,
+        Some(code) if is_heuristic(code) => Ending::Heuristic(code),
+        Some(code) => Ending::Left(code),
+    }
+}
+
 // The ending of a branch by its vote and its second code.
 fn ending_of(commit: bool, vote: Code, second: Option<Code>) -> Ending
     ensures { result ≡ ending_of commit vote second }
 {
-    if is_yes(vote) {
-        let Some(code) = second else {
-            return Ending::InDoubt;
-        };
-        if is_yes(code) {
-            if commit {
-                return Ending::Committed;
-            }
-            return Ending::RolledBack;
-        }
-        if matches!(code, Code::RmFail) {
-            return Ending::InDoubt;
-        }
-        if is_heuristic(code) {
-            return Ending::Heuristic(code);
-        }
-        return Ending::Left(code);
+    match vote_of(vote) {
+        Vote::Yes => yes_ending(commit, second),
+        Vote::ReadOnly => Ending::ReadOnly,
+        Vote::RolledBack => Ending::RolledBack,
+        Vote::OutOfReach => Ending::Left(vote),
+        Vote::No => no_ending(vote, second),
     }
-    if is_read(vote) {
-        return Ending::ReadOnly;
-    }
-    if is_rolled_back(vote) {
-        return Ending::RolledBack;
-    }
-    if is_out_of_reach(vote) {
-        return Ending::Left(vote);
-    }
-    let Some(code) = second else {
-        return Ending::Left(vote);
-    };
-    if is_yes(code) || is_rolled_back(code) {
-        return Ending::RolledBack;
-    }
-    if is_heuristic(code) {
-        return Ending::Heuristic(code);
-    }
-    Ending::Left(code)
 }
 
 fn code_of(ask: &Ask) -> Code
-    ensures { result ≡ code_of ask.now }
+    ensures { result ≡ code_of_ask ask.now }
 {
     match ask.code {
         Some(code) => code,
@@ -183,7 +190,7 @@ pub(crate) fn first_round(alloc: Global, branches: &[Branch]) -> Result<Vec<Ask>
 pub(crate) fn read_votes(asks: &[Ask], votes: &mut Vec<Code>)
     requires empty { votes.old.items ≡ [] }
     requires room { length asks.now ≤ vec_capacity votes.old }
-    ensures { votes.new.items ≡ map code_of asks.now }
+    ensures { votes.new.items ≡ map code_of_ask asks.now }
 {
     for ask in asks {
         votes.push_reserved(code_of(ask));

@@ -25,7 +25,7 @@ pub record AreAtFirst {J D : Type 0} (comes_to : J → D → Type 0) (jobs : Lis
   pub came : Pairwise (Comes comes_to) rest others
 
 -- there are no threads yet, and there is room for so many jobs and for what becomes of them
-pub record HasRoom {J D : Type 0} (n : ℕ) (h : Hands J D) : Type 0 where
+pub record HasRoomForJobs {J D : Type 0} (n : ℕ) (h : Hands J D) : Type 0 where
   pub no_hands : h.hands.items ≡ []
   pub no_others : h.others.items ≡ []
   pub none_came : h.came.items ≡ []

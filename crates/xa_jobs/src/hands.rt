@@ -1,6 +1,6 @@
 //! A thread for each job, and all jobs are done or none is: the threads wait for one word.
 ghost use Rattle.std.specs.Prelude.{◌≡◌, ◌≤◌, ◌+◌, [], List, All, length, IfOk, IfErr, IsTrue, vec_capacity};
-ghost use Rattle.xa_jobs.specs.Hands.{AreAtFirst, Comes, HasRoom, HasRoomForAll, IsAt};
+ghost use Rattle.xa_jobs.specs.Hands.{AreAtFirst, Comes, HasRoomForJobs, HasRoomForAll, IsAt};
 ghost use Rattle.xa_base.specs.Lists.{Pairwise};
 
 use crate::job::Job;
@@ -81,7 +81,7 @@ fn start_one<
 impl<J: Job<D> + Send + 'static, D: Drop + Send + 'static> Hands<J, D> {
     // Room for so many threads, and none of them.
     fn reserve(alloc: Global, jobs: usize) -> Result<Self, AllocError>
-        ensures { IfOk result (HasRoom jobs) }
+        ensures { IfOk result (HasRoomForJobs jobs) }
     {
         Ok(Hands {
             hands: Vec::with_capacity(alloc, jobs)?,
@@ -101,7 +101,7 @@ impl<J: Job<D> + Send + 'static, D: Drop + Send + 'static> Hands<J, D> {
         jobs: Vec<J>,
     ) -> bool
         requires ready { All J.can_run jobs.items }
-        requires room { HasRoom (length jobs.items) self.old }
+        requires room { HasRoomForJobs (length jobs.items) self.old }
         ensures started { AreAtFirst J.comes_to jobs.items self.new.hands.items self.new.others.items }
         ensures all { IsTrue result → self.new.others.items ≡ [] }
         ensures came { self.new.came ≡ self.old.came }
@@ -205,8 +205,8 @@ fn reserve_all<
     K: Job<E> + Send + 'static,
     E: Drop + Send + 'static,
 >(alloc: Global, jobs: usize, others: usize) -> Result<(Word, Hands<J, D>, Hands<K, E>), AllocError>
-    ensures jobs { IfOk result (λ r. HasRoom jobs r.1) }
-    ensures others { IfOk result (λ r. HasRoom others r.2) }
+    ensures jobs { IfOk result (λ r. HasRoomForJobs jobs r.1) }
+    ensures others { IfOk result (λ r. HasRoomForJobs others r.2) }
 {
     Ok((
         Word::new(alloc)?,

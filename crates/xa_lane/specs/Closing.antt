@@ -36,16 +36,16 @@ module _ {T : Type 0} where
 
 module _ {T : Type 0} where
   -- what a sender that has ended has put
-  abbrev pub told_of : Sending T → Log T
-  told_of e = log e.index e.sent true
+  abbrev pub log_of_end : Sending T → Log T
+  log_of_end e = log e.index e.sent true
 
   -- whether the end of sender p is there
   abbrev pub has_end : ℕ → List (Sending T) → Bool
   has_end p ends = list_any (λ e. e.index == p) ends
 
   -- the end of each sender is there
-  abbrev pub IsWhole : ℕ → List (Sending T) → Type 0
-  IsWhole senders ends = (p : ℕ) → p < senders → has_end p ends ≡ true
+  abbrev pub HasAllEnds : ℕ → List (Sending T) → Type 0
+  HasAllEnds senders ends = (p : ℕ) → p < senders → has_end p ends ≡ true
 
   -- of each sender: what was taken and then what was left is what it sent
   abbrev pub Conserves : List (Sending T) → List (Parcel T) → List (ℕ × T) → Type 0
@@ -66,4 +66,4 @@ module _ {T : Type 0} where
   -- why a lane was not closed: an end of another lane first, then an end that is not there
   abbrev pub IsWhy : CloseWhy → Receiving T → List (Sending T) → Type 0
   IsWhy Stranger r ends = ¬ All (λ e. e.lane ≡ r.lane) ends
-  IsWhy Missing r ends = All (λ e. e.lane ≡ r.lane) ends × (¬ IsWhole r.senders ends)
+  IsWhy Missing r ends = All (λ e. e.lane ≡ r.lane) ends × (¬ HasAllEnds r.senders ends)

@@ -74,9 +74,9 @@ module _ {T : Type 0} where
   after_deal v = v
 
   -- the view of that sender, which has the next number and has put nothing
-  abbrev pub dealt : View T → View T
-  dealt (Receives made got told) = Sends (log made [] false)
-  dealt v = Spent
+  abbrev pub dealt_view : View T → View T
+  dealt_view (Receives made got told) = Sends (log made [] false)
+  dealt_view v = Spent
 
   -- the receiver's view once it has taken a sender in
   abbrev pub after_join : View T → View T → View T
@@ -110,13 +110,13 @@ module _ {T : Type 0} where
 module _ {T : Type 0} (receiver made : ℕ) (seat : ℕ → maybe.Option ℕ) (got all : List (Parcel T)) (pass : ℕ) where
   -- each live sender has one pass, which knows what it put; the one receiver knows what it took, and what each sender
   -- put that it took in
-  abbrev pub Fits : View T → Type 0
-  Fits (Sends l) = (seat l.from ≡ some pass) × (of_sender l.from all ≡ put_of l)
-  Fits (Receives m g told) =
+  abbrev pub FitsOrder : View T → Type 0
+  FitsOrder (Sends l) = (seat l.from ≡ some pass) × (of_sender l.from all ≡ put_of l)
+  FitsOrder (Receives m g told) =
       (pass ≡ receiver) × (m ≡ made) × (g ≡ got) ×
       ((k : ℕ) (l : Log T) → get_elem? told k ≡ some l
       → (l.from < made) × (seat l.from ≡ none) × (of_sender l.from all ≡ put_of l))
-  Fits Spent = Unit {0}
+  FitsOrder Spent = Unit {0}
 
 -- the rule: some parcels were taken, and for each pass that isn't spent they and those held are as it knows
 pub record Delivers {T : Type 0} (items : List (Parcel T)) (views : List (View T)) : Type 0 where
@@ -126,4 +126,5 @@ pub record Delivers {T : Type 0} (items : List (Parcel T)) (views : List (View T
   pub got : List (Parcel T)
   pub short : length items ≤ MOST_QUEUED
   pub unmade : (p : ℕ) → made ≤ p → (seat p ≡ none) × (of_sender p (got ++ items) ≡ [])
-  pub fits : (pass : ℕ) (v : View T) → get_elem? views pass ≡ some v → Fits receiver made seat got (got ++ items) pass v
+  pub fits : (pass : ℕ) (v : View T) → get_elem? views pass ≡ some v
+      → FitsOrder receiver made seat got (got ++ items) pass v

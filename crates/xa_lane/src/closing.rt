@@ -6,7 +6,7 @@ ghost use Rattle.xa_lane.specs.declared.parcel.Parcel.{Parcel};
 ghost use Rattle.xa_base.specs.declared.limits.TheConstants.{MOST_QUEUED};
 ghost use Rattle.xa_lane.specs.Order.{Tied, Within, made_in, taken_in, told_in};
 ghost use Rattle.xa_lane.specs.Ends.{line_of};
-ghost use Rattle.xa_lane.specs.Closing.{IsWhole, told_of, items_in, Covers, has_end};
+ghost use Rattle.xa_lane.specs.Closing.{HasAllEnds, log_of_end, items_in, Covers, has_end};
 
 use crate::ended::Ended;
 use crate::name::LaneName;
@@ -35,7 +35,7 @@ fn has<T: Copy>(ended: &Vec<Ended<T>>, sender: usize) -> bool
 
 // Whether the end of each sender is there.
 pub(crate) fn are_whole<T: Copy>(ended: &Vec<Ended<T>>, senders: usize) -> bool
-    ensures { IsTrue result ↔ IsWhole senders ended.now.items }
+    ensures { IsTrue result ↔ HasAllEnds senders ended.now.items }
 {
     for sender in 0..senders {
         if !has(ended, sender) {
@@ -54,7 +54,7 @@ pub(crate) fn take_in<T: Copy>(
     requires pass { IsPassOf line.now pass × (view pass ≡ Receives (made_in (view pass)) (taken_in (view pass)) []) }
     requires ended { All (λ e. e.line ≡ line_of line.now) ended.items }
     ensures pass { IsPassOf line.now result }
-    ensures knows { view result ≡ Receives (made_in (view pass)) (taken_in (view pass)) (map told_of ended.items) }
+    ensures knows { view result ≡ Receives (made_in (view pass)) (taken_in (view pass)) (map log_of_end ended.items) }
 {
     for end in ended {
         line.absorb::<TakesIn>(&mut pass, end.into_pass());

@@ -2,7 +2,7 @@
 ghost use Rattle.std.specs.Prelude.{◌≡◌, []};
 ghost use Rattle.crossbeam_queue.specs.Passes.{view};
 ghost use Rattle.xa_lane.specs.declared.order.View.TheVariants.{Sends};
-ghost use Rattle.xa_lane.specs.Closing.{told_of};
+ghost use Rattle.xa_lane.specs.Closing.{log_of_end};
 
 use crate::name::LaneName;
 use crate::order::{ParcelQueue, View};
@@ -64,7 +64,7 @@ impl<T: Copy> Ended<T> {
     // The pass knows what the sender has sent, and that it has ended.
     pub(crate) fn into_pass(self) -> Pass<Parcel<T>, View<T>>
         ensures pass { (result.table_id ≡ self.line) × (result.me.1 ≡ []) }
-        ensures knows { view result ≡ Sends (told_of self) }
+        ensures knows { view result ≡ Sends (log_of_end self) }
     {
         let Ended {
             line: _,

@@ -1,7 +1,7 @@
 //! How a lane is opened and closed.
 ghost use Rattle.std.specs.Prelude.{◌≡◌, ◌↔◌, All, IfOk, OnOk, IfErr};
 ghost use Rattle.xa_lane.specs.Ends.{new_senders, new_receiver, IsLaneSize};
-ghost use Rattle.xa_lane.specs.Closing.{IsWhole, Conserves, EndsLast, LeavesNothing, AreKnown, IsWhy};
+ghost use Rattle.xa_lane.specs.Closing.{HasAllEnds, Conserves, EndsLast, LeavesNothing, AreKnown, IsWhy};
 
 use crate::closing::{are_of, are_whole, drain, take_in};
 use crate::ended::Ended;
@@ -118,7 +118,8 @@ pub fn close_lane<T: Copy, R: Wait>(
     receiver: Receiver<T>,
 ) -> Result<Vec<(usize, T)>, CloseFault<T>>
     requires { All (λ e. e.lane ≡ receiver.lane → e.line ≡ receiver.line) ended.items }
-    ensures whole { OnOk result (All (λ e. e.lane ≡ receiver.lane) ended.items × IsWhole receiver.senders ended.items) }
+    ensures whole { OnOk result (All (λ e. e.lane ≡ receiver.lane) ended.items
+        × HasAllEnds receiver.senders ended.items) }
     ensures conserves { IfOk result (λ left. Conserves ended.items receiver.taken left.items) }
     ensures last { IfOk result (λ left. EndsLast ended.items receiver.taken left.items) }
     ensures nothing { IfOk result (λ left. LeavesNothing ended.items receiver.taken left.items) }

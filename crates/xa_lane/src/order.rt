@@ -41,11 +41,11 @@ impl<T> Protocol<Parcel<T>, View<T>> for InOrder {
 pub struct Deals;
 
 impl<T> Split<View<T>> for Deals {
-    ghost use Rattle.xa_lane.specs.Order.{after_deal, dealt};
+    ghost use Rattle.xa_lane.specs.Order.{after_deal, dealt_view};
 
     ghost left = { after_deal };
 
-    ghost right = { dealt };
+    ghost right = { dealt_view };
 }
 
 // The receiver takes a sender in, whose pass is then spent.
@@ -61,16 +61,16 @@ impl<T> Join<View<T>> for TakesIn {
 }
 
 // A sender puts a parcel, or learns that the queue was full.
-pub struct Puts;
+pub struct Pushes;
 
-impl<T> Outcome<Parcel<T>, View<T>> for Puts {
+impl<T> Outcome<Parcel<T>, View<T>> for Pushes {
     ghost use Rattle.std.specs.Prelude.{◌≡◌};
     ghost use Rattle.xa_lane.specs.Order.{after_put};
 
     ghost then = { λ v x w. w ≡ after_put v x };
 }
 
-impl<T> Lesson<Parcel<T>, View<T>> for Puts {
+impl<T> Lesson<Parcel<T>, View<T>> for Pushes {
     ghost use Rattle.xa_lane.specs.Order.{sender_learns};
 
     ghost fact = { sender_learns };

@@ -4,7 +4,7 @@ ghost use Rattle.xa_lane.specs.Ends.{counted, SameSender};
 
 use crate::ended::Ended;
 use crate::name::LaneName;
-use crate::order::{ParcelQueue, Puts, View};
+use crate::order::{ParcelQueue, Pushes, View};
 use crate::parcel::{Full, Parcel};
 use crossbeam_queue::Pass;
 use std::alloc::Global;
@@ -73,7 +73,7 @@ impl<T: Copy> Sender<T> {
             from: self.index,
             item: Some(item),
         };
-        match self.line.push_as::<Puts, R>(rt, &mut self.pass, parcel) {
+        match self.line.push_as::<Pushes, R>(rt, &mut self.pass, parcel) {
             Ok(()) => Ok(()),
             Err(_) => {
                 self.full = self.full.saturating_add(1);
@@ -93,7 +93,7 @@ impl<T: Copy> Sender<T> {
             from: self.index,
             item: None,
         };
-        match self.line.push_as::<Puts, R>(rt, &mut self.pass, mark) {
+        match self.line.push_as::<Pushes, R>(rt, &mut self.pass, mark) {
             Ok(()) => {
                 let Sender {
                     line,

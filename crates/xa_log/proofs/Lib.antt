@@ -1,2 +1,3 @@
 pub mod Transactions
 pub mod Kept
+pub mod Trials

@@ -1,5 +1,5 @@
 -- The decision log: a finite map. A transaction that isn't there is presumed aborted.
-use Rattle.std.specs.Prelude.{◌≡◌, ◌≢◌, ◌⊎◌, ℕ, ◌+◌, ◌-◌, ◌%◌, ◌^◌, ◌<◌, ◌≤◌, nat_lt, if◌then◌else◌, Bool, true, false}
+use Rattle.std.specs.Prelude.{◌≡◌, ◌⊎◌, ℕ, ◌+◌, ◌-◌, ◌%◌, ◌^◌, ◌<◌, ◌≤◌, nat_lt, if◌then◌else◌, Bool, true, false}
 use Rattle.std.specs.Prelude.{Option, None, List, [], ◌∷◌, refl}
 use Rattle.std.specs.List.{flat_map, list_any}
 use Rattle.std.specs.FinMap.{FinMap}
@@ -51,8 +51,8 @@ abbrev pub with_only : LogState → List TranName → LogState
 with_only log ts = record log { records = map.retain_keys log.records (is_among ts) }
 
 -- one more; at u64::MAX it stays
-abbrev pub counted : ℕ → ℕ
-counted n = if nat_lt n (2 ^ 64 - 1) then n + 1 else n
+abbrev pub counted_up : ℕ → ℕ
+counted_up n = if nat_lt n (2 ^ 64 - 1) then n + 1 else n
 
 -- these records more, in their order
 abbrev pub with_records : LogState → List CommitRecord → LogState
@@ -80,44 +80,31 @@ pub record IsReadAs {L : Type 0} (state : L → LogState) (knows : L → Type 0)
   pub lost : (knows log → ⊥) → (before : L) (t : TranName) (managers : List Bool) → loses t managers before log
       → IsEither (state before) read t managers
 
--- a log in memory: its state, how many appends there were, which one fails, and for how many more records it has room
+-- a log in memory: its state, and for how many more records it has room
 pub record LogView : Type 0 where
   pub state : LogState
-  pub appends : ℕ
-  pub failing : ℕ
   pub room : ℕ
 
 -- the room that a map has by its spare places; of one that was never reserved none is known
-abbrev pub room_in : Bool → ℕ → ℕ
-room_in true spare = spare
-room_in false spare = 0
+abbrev pub room_by_spare : Bool → ℕ → ℕ
+room_by_spare true spare = spare
+room_by_spare false spare = 0
 
--- What an append to a log in memory does, and whether that takes the record. The append that is to fail does, and
--- nothing else changes; another one fails only where the log has no room.
+-- What an append to a log in memory does, and whether that takes the record: it fails only where the log has no room.
 pub record AppendsTo (tran : TranName) (yes : List Bool) (taken : Bool) (old new : LogView) : Type 0 where
   pub state : new.state ≡ (if taken then with_record old.state tran yes else with_failure old.state)
-  pub appends : new.appends ≡ counted old.appends
-  pub failing : new.failing ≡ old.failing
-  pub injected : counted old.appends ≡ old.failing → (taken ≡ false) × (new.room ≡ old.room)
-  pub fits : 0 < old.room → counted old.appends ≢ old.failing → taken ≡ true
+  pub fits : 0 < old.room → taken ≡ true
   pub room : taken ≡ true → old.room ≤ new.room + 1
 
 -- What forgetting does to a log in memory beside its records: there is room for as many more as before.
-pub record ForgetsFrom (old new : LogView) : Type 0 where
-  pub appends : new.appends ≡ old.appends
-  pub failing : new.failing ≡ old.failing
-  pub room : old.room ≤ new.room
+abbrev pub ForgetsFrom : LogView → LogView → Type 0
+ForgetsFrom old new = old.room ≤ new.room
 
 -- a log in memory as data
 abbrev pub log_code : Coded LogView
 log_code =
-    code_by (Records × (ℕ × (ℕ × (ℕ × ℕ))))
-    (coded× (map.code tran_code (coded_list coded_bool)) (coded× coded_ℕ (coded× coded_ℕ (coded× coded_ℕ coded_ℕ))))
-    (λ l. (l.state.records, (l.state.failures, (l.appends, (l.failing, l.room)))))
-    (λ p. record {
-      state = record { records = p.0; failures = p.1.0 };
-      appends = p.1.1.0;
-      failing = p.1.1.1.0;
-      room = p.1.1.1.1;
-    })
+    code_by (Records × (ℕ × ℕ))
+    (coded× (map.code tran_code (coded_list coded_bool)) (coded× coded_ℕ coded_ℕ))
+    (λ l. (l.state.records, (l.state.failures, l.room)))
+    (λ p. record { state = record { records = p.0; failures = p.1.0 }; room = p.1.1 })
     (λ _. refl)

@@ -2,19 +2,19 @@
 use Rattle.std.specs.Prelude.{◌<◌, ◌≡◌, ◌⊎◌, ℕ, ◌+◌, ◌≤◌, max, List, [], ◌∷◌, ◌++◌, length, take, drop, Result, IsErr}
 
 -- the file with these bytes at this offset, in place of as many
-abbrev pub overwritten : List ℕ → ℕ → List ℕ → List ℕ
-overwritten old at bytes = take at old ++ bytes ++ drop (at + length bytes) old
+abbrev pub log_overwritten : List ℕ → ℕ → List ℕ → List ℕ
+log_overwritten old at bytes = take at old ++ bytes ++ drop (at + length bytes) old
 
 -- a byte that is written alone is there or not
-pub record IsWhole (at : ℕ) (bytes old new : List ℕ) : Type 0 where
-  pub alone : (b : ℕ) → bytes ≡ b ∷ [] → (new ≡ old) ⊎ (new ≡ overwritten old at bytes)
+pub record IsByteWhole (at : ℕ) (bytes old new : List ℕ) : Type 0 where
+  pub alone : (b : ℕ) → bytes ≡ b ∷ [] → (new ≡ old) ⊎ (new ≡ log_overwritten old at bytes)
 
 -- over bytes that are there: the file with some bytes, as many, at this offset
 pub record IsOverwritten (old : List ℕ) (at : ℕ) (bytes file : List ℕ) : Type 0 where
   pub some : List ℕ
   pub count : length some ≡ length bytes
-  pub file_is : file ≡ overwritten old at some
-  pub whole : IsWhole at bytes old file
+  pub file_is : file ≡ log_overwritten old at some
+  pub whole : IsByteWhole at bytes old file
 
 -- any n bytes in the range and past the old end, the same elsewhere
 pub record IsTorn (at n : ℕ) (old new : List ℕ) : Type 0 where
@@ -26,11 +26,11 @@ pub record IsTorn (at n : ℕ) (old new : List ℕ) : Type 0 where
 -- after a write of these bytes that a crash cuts short
 pub record Torn (at : ℕ) (bytes old new : List ℕ) : Type 0 where
   pub torn : IsTorn at (length bytes) old new
-  pub whole : IsWhole at bytes old new
+  pub whole : IsByteWhole at bytes old new
 
 -- each new outcome of a crash is an old outcome after a step
-abbrev pub Follows : (List ℕ → List ℕ → Type 0) → (List ℕ → Type 0) → (List ℕ → Type 0) → Type 0
-Follows step old new = (c : List ℕ) → new c → (d : List ℕ) × old d × step d c
+abbrev pub OutcomesFollow : (List ℕ → List ℕ → Type 0) → (List ℕ → Type 0) → (List ℕ → Type 0) → Type 0
+OutcomesFollow step old new = (c : List ℕ) → new c → (d : List ℕ) × old d × step d c
 
 -- a crash leaves this and nothing else
 abbrev pub Only : List ℕ → (List ℕ → Type 0) → Type 0

@@ -9,8 +9,8 @@ use Rattle.xa_log_file.specs.Device.{Only}
 use Rattle.xa_log_file.specs.RecordBytes.{spelling, head, IsValid}
 
 -- the record of each slot, where it has one
-abbrev pub Table : Type 0
-Table = List (Option CommitRecord)
+abbrev pub RecordTable : Type 0
+RecordTable = List (Option CommitRecord)
 
 -- the bytes of slot k: its gate and its body, after the head and the slots before it
 abbrev pub slot : ℕ → List ℕ → List ℕ
@@ -23,35 +23,35 @@ pub record IsSlotOf (o : Option CommitRecord) (bytes : List ℕ) : Type 0 where
   pub valid : (r : CommitRecord) → o ≡ Some r → IsValid r
 
 -- the transaction of a slot's record, where it has one
-abbrev pub name_of : Option CommitRecord → Option TranName
-name_of o = option_map (λ r. r.tran) o
+abbrev pub tran_of_record : Option CommitRecord → Option TranName
+tran_of_record o = option_map (λ r. r.tran) o
 
 -- no two slots have one transaction
-abbrev pub AreApart : Table → Type 0
-AreApart table = (j k : ℕ) (t : TranName) → name_of (get_or table j None) ≡ Some t
-    → name_of (get_or table k None) ≡ Some t → j ≡ k
+abbrev pub NoTransactionTwice : RecordTable → Type 0
+NoTransactionTwice table = (j k : ℕ) (t : TranName) → tran_of_record (get_or table j None) ≡ Some t
+    → tran_of_record (get_or table k None) ≡ Some t → j ≡ k
 
 -- The file stands for the table: its size and its head are those of so many slots, each has what the table has, and no
 -- two have one transaction.
-pub record StandsFor (table : Table) (file : List ℕ) : Type 0 where
+pub record StandsFor (table : RecordTable) (file : List ℕ) : Type 0 where
   pub few : length table ≤ 65536
   pub size : length file ≡ 18 + 94 * length table
   pub header : take 18 file ≡ head (length table)
   pub each : (k : ℕ) → k < length table → IsSlotOf (get_or table k None) (slot k file)
-  pub apart : AreApart table
+  pub apart : NoTransactionTwice table
 
 -- the records of a table, by their transactions
-abbrev pub entries : Table → List (TranName × List Bool)
+abbrev pub entries : RecordTable → List (TranName × List Bool)
 entries [] = []
 entries (None ∷ table) = entries table
 entries (Some r ∷ table) = (r.tran, r.yes) ∷ entries table
 
-abbrev pub records_of : Table → Records
+abbrev pub records_of : RecordTable → Records
 records_of table = finmap.from_entries (entries table)
 
 -- the file stands for these records
 pub record HasRecords (records : Records) (file : List ℕ) : Type 0 where
-  pub table : Table
+  pub table : RecordTable
   pub stands : StandsFor table file
   pub same : records_of table ≡ records
 
@@ -74,21 +74,21 @@ abbrev pub IsNoLogSize : ℕ → Type 0
 IsNoLogSize size = (slots : ℕ) → slots ≤ 65536 → size ≡ 18 + 94 * slots → ⊥
 
 -- what a read returns stands for the table, and a crash leaves it
-pub record IsDurable {D : Type 0} (seen : D → List ℕ) (may_leave : D → List ℕ → Type 0) (table : Table)
+pub record IsDurable {D : Type 0} (seen : D → List ℕ) (may_leave : D → List ℕ → Type 0) (table : RecordTable)
     (device : D) : Type 0 where
   pub stands : StandsFor table (seen device)
   pub durable : Only (seen device) (may_leave device)
 
 -- whatever a crash leaves stands for the table
-abbrev pub Keeps : {D : Type 0} → (D → List ℕ → Type 0) → Table → D → Type 0
-Keeps may_leave table device = (c : List ℕ) → may_leave device c → StandsFor table c
+abbrev pub KeepsTable : {D : Type 0} → (D → List ℕ → Type 0) → RecordTable → D → Type 0
+KeepsTable may_leave table device = (c : List ℕ) → may_leave device c → StandsFor table c
 
 -- the file stands for no records, nor for none of them
 abbrev pub IsNoLog : List ℕ → Type 0
 IsNoLog file = (records : Records) → HasRecords records file → ⊥
 
 -- a table with no record
-abbrev pub free_slots : ℕ → Table
+abbrev pub free_slots : ℕ → RecordTable
 free_slots n = replicate n None
 
 -- it is no log yet, or one without a record

@@ -1,7 +1,7 @@
 //! A new log in an empty file.
 ghost use Rattle.std.specs.Prelude.{◌≡◌, ◌≢◌, ◌⊎◌, ◌≤◌, ◌*◌, ◌++◌, [], None, drop, replicate};
 ghost use Rattle.std.specs.Prelude.{IfOk, IfErr, OnOk};
-ghost use Rattle.xa_log_file.specs.declared.slot.Slot.TheVariants.{Free};
+ghost use Rattle.xa_log_file.specs.declared.slot.LogSlot.TheVariants.{Free};
 ghost use Rattle.xa_log_file.specs.declared.condition.Condition.TheVariants.{Ready};
 ghost use Rattle.xa_log_file.specs.declared.creating.CreateFault.TheVariants.{NotEmpty, Memory, Failed};
 ghost use Rattle.xa_log_file.specs.Device.{Only, LeavesOnly};
@@ -9,7 +9,7 @@ ghost use Rattle.xa_log_file.specs.RecordBytes.{head};
 ghost use Rattle.xa_log_file.specs.Slots.{StandsFor, IsNewLog, free_slots};
 
 use crate::condition::Condition;
-use crate::device::{Device, DeviceFault, ReadFault};
+use crate::device::{Device, LogDeviceFault, LogReadFault};
 use crate::file_log::FileLog;
 use crate::layout::{HEAD, SLOT};
 use crate::opening::head_of;
@@ -28,12 +28,12 @@ pub enum CreateFault {
     NotEmpty,
 }
 
-fn fault_of(fault: ReadFault) -> CreateFault
+fn fault_of(fault: LogReadFault) -> CreateFault
     ensures { (result ≡ Memory) ⊎ (result ≡ Failed) }
 {
     match fault {
-        ReadFault::Memory => CreateFault::Memory,
-        ReadFault::Failed => CreateFault::Failed,
+        LogReadFault::Memory => CreateFault::Memory,
+        LogReadFault::Failed => CreateFault::Failed,
     }
 }
 
@@ -52,7 +52,7 @@ fn later_bytes(alloc: Global, slots: u32) -> Result<Vec<u8>, AllocError>
 
 // Writes a file without a record. The first byte of its head comes last, once all else is on the disk: so until then
 // it is no log, whatever a crash makes of the rest.
-fn write_new<D: Device>(device: &mut D, slots: u32, later: &[u8]) -> Result<(), DeviceFault>
+fn write_new<D: Device>(device: &mut D, slots: u32, later: &[u8]) -> Result<(), LogDeviceFault>
     requires few { slots ≤ 65536 }
     requires empty { D.seen device.old ≡ [] }
     requires durable { Only [] (D.may_leave device.old) }

@@ -1,34 +1,34 @@
 //! A file as the log sees it: what a read returns, and what a crash may leave.
 ghost use Rattle.std.specs.Prelude.{◌≡◌, ◌≤◌, List, ℕ, length, IfOk, OnOk, OnErr};
-ghost use Rattle.xa_log_file.specs.Device.{Only, Follows, Torn, overwritten, Elapses, HasCause};
-ghost use Rattle.xa_log_file.specs.declared.device.ReadFault.TheVariants.{Memory};
+ghost use Rattle.xa_log_file.specs.Device.{Only, OutcomesFollow, Torn, log_overwritten, Elapses, HasCause};
+ghost use Rattle.xa_log_file.specs.declared.device.LogReadFault.TheVariants.{Memory};
 
 use std::alloc::{AllocError, AllocFailed, Global};
 
 /// A write or a sync failed.
 #[derive(Clone, Copy, Debug, PartialEq, Eq)]
-pub struct DeviceFault;
+pub struct LogDeviceFault;
 
 /// A read failed, or there was no memory for what it reads.
 #[derive(Clone, Copy, Debug, PartialEq, Eq)]
-pub enum ReadFault {
+pub enum LogReadFault {
     Memory,
     Failed,
 }
 
-impl From<AllocError> for ReadFault {
+impl From<AllocError> for LogReadFault {
     ghost from_gives = { λ _ e. e ≡ Memory };
 
     fn from(_: AllocError) -> Self {
-        ReadFault::Memory
+        LogReadFault::Memory
     }
 }
 
-impl<T: Drop> From<AllocFailed<T>> for ReadFault {
+impl<T: Drop> From<AllocFailed<T>> for LogReadFault {
     ghost from_gives = { λ _ e. e ≡ Memory };
 
     fn from(_: AllocFailed<T>) -> Self {
-        ReadFault::Memory
+        LogReadFault::Memory
     }
 }
 
@@ -50,7 +50,7 @@ pub trait Device {
     ghost faults: { Self → ℕ };
 
     /// All the bytes.
-    fn read(&mut self, alloc: Global) -> Result<Vec<u8>, ReadFault>
+    fn read(&mut self, alloc: Global) -> Result<Vec<u8>, LogReadFault>
         ensures bytes { IfOk result (λ bytes. bytes.items ≡ seen self.old) }
         ensures seen { seen self.new ≡ seen self.old }
         ensures crash { (c : List ℕ) → may_leave self.new c → may_leave self.old c }
@@ -59,10 +59,10 @@ pub trait Device {
 
     /// Writes over what is there, and past the end. Until a sync, a crash may leave any bytes in the range; but of a
     /// write of one byte, that one or what was there.
-    fn write_at(&mut self, at: usize, bytes: &[u8]) -> Result<(), DeviceFault>
+    fn write_at(&mut self, at: usize, bytes: &[u8]) -> Result<(), LogDeviceFault>
         requires { at ≤ length (seen self.old) }
-        ensures written { OnOk result (seen self.new ≡ overwritten (seen self.old) at bytes.now) }
-        ensures crash { Follows (Torn at bytes.now) (may_leave self.old) (may_leave self.new) }
+        ensures written { OnOk result (seen self.new ≡ log_overwritten (seen self.old) at bytes.now) }
+        ensures crash { OutcomesFollow (Torn at bytes.now) (may_leave self.old) (may_leave self.new) }
         ensures time { Elapses (moment self.old) (moment self.new) (left_since self.old) (left_since self.new)
             (may_leave self.new) }
         ensures cause { HasCause (faults self.old) (faults self.new) result };
@@ -70,7 +70,7 @@ pub trait Device {
     /// After it, a crash leaves what a read returns. A real file can't promise that once a write or a sync has failed:
     /// the kernel may have dropped what was written. So after an `Err` of `write_at` or `sync` no later sync is `Ok`:
     /// only a new handle, which reads from the disk, tells what is there.
-    fn sync(&mut self) -> Result<(), DeviceFault>
+    fn sync(&mut self) -> Result<(), LogDeviceFault>
         ensures durable { OnOk result (Only (seen self.old) (may_leave self.new)) }
         ensures seen { seen self.new ≡ seen self.old }
         ensures crash { OnErr result ((c : List ℕ) → may_leave self.new c → may_leave self.old c) }

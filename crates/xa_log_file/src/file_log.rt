@@ -1,24 +1,20 @@
 //! The decision log over a device: a record in each slot whose gate is open.
-ghost use Rattle.std.specs.Prelude.{◌≡◌, ◌≢◌, ◌⊎◌, ◌<◌, ◌≤◌, List, ℕ, map, length, slice_index_or, IfSome, IfNone};
-ghost use Rattle.std.specs.Prelude.{OnSome, None, true, false, refl};
+ghost use Rattle.std.specs.Prelude.{◌≡◌, ◌≢◌, ◌⊎◌, ◌<◌, ◌≤◌, List, [], ◌∷◌, ℕ, map, length, slice_index_or};
+ghost use Rattle.std.specs.Prelude.{true, false, refl};
 ghost use Rattle.std.proofs.Props.{props};
-ghost use Rattle.xa_log_file.specs.declared.slot.Slot.TheVariants.{Free};
+ghost use Rattle.xa_log_file.specs.declared.slot.LogSlot.TheVariants.{Free};
 ghost use Rattle.xa_log_file.specs.declared.condition.Condition.TheVariants.{Ready, Lost};
-ghost use Rattle.xa_log.specs.Log.{record_in};
-ghost use Rattle.xa_log_file.specs.Appends.{IsAppend, IsLoss, IsForgetting};
+ghost use Rattle.xa_log_file.specs.Appends.{IsAppend, IsLoss, IsForgettingInLog};
 ghost use Rattle.xa_log_file.specs.Device.{LeavesOnly};
-ghost use Rattle.xa_log_file.specs.RecordBytes.{IsValid};
-ghost use Rattle.xa_log_file.specs.Memory.{HasNoName, IsFull, LeavesShown, MayShow, HasRecordsAndPerhaps, Shows};
-ghost use Rattle.xa_log_file.specs.Memory.{table_of, taken, records_in, forgotten_in, log_state, shut};
+ghost use Rattle.xa_log_file.specs.Memory.{LeavesShown, MayShow, HasRecordsAndPerhaps, Shows};
+ghost use Rattle.xa_log_file.specs.Memory.{table_of, taken, records_in, forgotten_in, state_of_slots, shut};
 
 use crate::condition::Condition;
 use crate::device::Device;
 use crate::shutting::shut_gates;
-use crate::slot::Slot;
+use crate::slot::LogSlot;
 use crate::slot_table::SlotTable;
-use crate::spelling::is_valid;
-use crate::writing::write_record;
-use xa_log::{CommitRecord, DecisionLog, DecisionRecords, LogFault, ReopenLog};
+use xa_log::{CommitRecord, DecisionLog, DecisionRecords, GroupLog, LogFault, ReopenLog};
 use xa_words::{ManagerSet, Tran};
 
 /// A decision log in the slots of a file.
@@ -57,40 +53,6 @@ impl<D: Device> FileLog<D> {
         self.table.shut();
         true
     }
-
-    // A free slot for a record, where the log takes it.
-    fn place_for(&mut self, decision: &CommitRecord) -> Option<usize>
-        requires known { self.old.condition ≢ Lost }
-        requires new { record_in (records_in self.old.table.slots.items) decision.now.tran ≡ None }
-        ensures ready { OnSome result (self.new.condition ≡ Ready) }
-        ensures valid { OnSome result (IsValid decision.now) }
-        ensures new { OnSome result (HasNoName self.new.table.slots.items decision.now.tran) }
-        ensures free { IfSome result (λ place. (place < length self.new.table.slots.items)
-            × (slice_index_or self.new.table.slots.items place Free ≡ Free)) }
-        ensures cause { IfNone result ((self.old.condition ≢ Ready) ⊎ (IsFull self.old.table.slots.items
-            ⊎ ((D.faults self.old.device < D.faults self.new.device) ⊎ (IsValid decision.now → ⊥)))) }
-        ensures known { self.new.condition ≢ Lost }
-        ensures goes_on { (self.new.condition ≡ self.old.condition)
-            ⊎ (D.faults self.old.device < D.faults self.new.device) }
-        ensures slots { (self.new.table.slots.items ≡ self.old.table.slots.items)
-            ⊎ (self.new.table.slots.items ≡ map shut self.old.table.slots.items) }
-        ensures failures { self.new.failures ≡ self.old.failures }
-        ensures faults { D.faults self.old.device ≤ D.faults self.new.device }
-        ensures any_moment { LeavesOnly D.moment D.left_since self.old.device self.new.device
-            (MayShow self.old.table.slots.items) }
-    {
-        if self.condition != Condition::Ready || !is_valid(decision) {
-            return None;
-        }
-        let place = self.table.free_place_for(&decision.tran);
-        if place.is_some() {
-            return place;
-        }
-        if !self.shut_forgotten() {
-            return None;
-        }
-        self.table.free_place_for(&decision.tran)
-    }
 }
 
 impl<D: Device> DecisionRecords for FileLog<D> {
@@ -101,7 +63,7 @@ impl<D: Device> DecisionRecords for FileLog<D> {
     fn has(&self, tran: &Tran) -> Option<ManagerSet> {
         let place = self.table.place_of(tran)?;
         match self.table.slots[place] {
-            Slot::Taken(record) => Some(record.yes),
+            LogSlot::Taken(record) => Some(record.yes),
             _ => None,
         }
     }
@@ -112,50 +74,30 @@ impl<D: Device> DecisionRecords for FileLog<D> {
 }
 
 impl<D: Device> DecisionLog for FileLog<D> {
-    ghost state = { λ l. log_state l.table.slots.items l.failures };
+    ghost state = { λ l. state_of_slots l.table.slots.items l.failures };
 
-    // A crash at any moment of the call leaves the records from before it, with the new one or without, and perhaps
-    // forgotten ones; and why a record is refused.
+    // An append is one of a single record together.
     ghost appends = { λ tran yes taken old new.
         IsAppend (record { moment = D.moment; left_since = D.left_since; faults = D.faults })
-        (record { tran = tran; yes = yes }) taken
+        (record { tran = tran; yes = yes } ∷ []) taken
         (record { condition = old.condition; slots = old.table.slots.items; device = old.device })
         (record { condition = new.condition; slots = new.table.slots.items; device = new.device }) };
 
-    // A crash at any moment leaves the same; and the device has failed.
     ghost loses = { λ tran yes old new.
         IsLoss (record { moment = D.moment; left_since = D.left_since; faults = D.faults })
-        (record { tran = tran; yes = yes })
+        (record { tran = tran; yes = yes } ∷ [])
         (record { condition = old.condition; slots = old.table.slots.items; device = old.device })
         (record { condition = new.condition; slots = new.table.slots.items; device = new.device }) };
 
     // The file stays, and forgotten is what was in it.
-    ghost forgets = { λ old new. IsForgetting
+    ghost forgets = { λ old new. IsForgettingInLog
         (record { condition = old.condition; slots = old.table.slots.items; device = old.device })
         (record { condition = new.condition; slots = new.table.slots.items; device = new.device }) };
 
     ghost records_are = { λ l. refl };
 
     fn append(&mut self, decision: &CommitRecord) -> Result<(), LogFault> {
-        let Some(place) = self.place_for(decision) else {
-            self.failures = self.failures.wrapping_add(1);
-            return Err(LogFault::Refused);
-        };
-        match write_record(&mut self.device, &self.table.slots, place, decision) {
-            Ok(()) => {
-                self.table.take(place, *decision);
-                Ok(())
-            }
-            Err(LogFault::Refused) => {
-                self.condition = Condition::Halted;
-                self.failures = self.failures.wrapping_add(1);
-                Err(LogFault::Refused)
-            }
-            Err(LogFault::Unknown) => {
-                self.condition = Condition::Lost;
-                Err(LogFault::Unknown)
-            }
-        }
+        self.record_all(&[*decision])
     }
 
     fn forget(&mut self, tran: &Tran) {
@@ -168,6 +110,25 @@ impl<D: Device> DecisionLog for FileLog<D> {
 
     fn failures(&self) -> u64 {
         self.failures
+    }
+}
+
+impl<D: Device> GroupLog for FileLog<D> {
+    // A crash at any moment of the call leaves the records from before it, any of the new ones, and perhaps forgotten
+    // ones; and why the records are refused.
+    ghost appends_all = { λ rs taken old new.
+        IsAppend (record { moment = D.moment; left_since = D.left_since; faults = D.faults }) rs taken
+        (record { condition = old.condition; slots = old.table.slots.items; device = old.device })
+        (record { condition = new.condition; slots = new.table.slots.items; device = new.device }) };
+
+    // A crash at any moment leaves the same; and the device has failed.
+    ghost loses_all = { λ rs old new.
+        IsLoss (record { moment = D.moment; left_since = D.left_since; faults = D.faults }) rs
+        (record { condition = old.condition; slots = old.table.slots.items; device = old.device })
+        (record { condition = new.condition; slots = new.table.slots.items; device = new.device }) };
+
+    fn append_all(&mut self, decisions: &[CommitRecord]) -> Result<(), LogFault> {
+        self.record_all(decisions)
     }
 }
 
@@ -208,7 +169,7 @@ impl<D: Device> FileLog<D> {
         requires { self.now.condition ≢ Lost }
         ensures { result ≡ taken (slice_index_or self.now.table.slots.items place Free) }
     {
-        if let Some(Slot::Taken(record)) = self.table.slots.get(place) {
+        if let Some(LogSlot::Taken(record)) = self.table.slots.get(place) {
             return Some(*record);
         }
         None

@@ -4,7 +4,7 @@
 //! log's name is whole, and what a program left that was killed as it made one is in nobody's way.
 ghost use Rattle.std.specs.Prelude.{◌≡◌, ◌≤◌, IfOk, replicate};
 ghost use Rattle.xa_log.specs.Log.{Records};
-ghost use Rattle.xa_log_file.specs.declared.slot.Slot.TheVariants.{Free};
+ghost use Rattle.xa_log_file.specs.declared.slot.LogSlot.TheVariants.{Free};
 ghost use Rattle.xa_log_file.specs.declared.condition.Condition.TheVariants.{Ready};
 ghost use Rattle.xa_log_file.specs.Device.{Only};
 ghost use Rattle.xa_log_file.specs.DeviceHistories.{leaves};
@@ -13,15 +13,15 @@ ghost use Rattle.xa_log_file.specs.Memory.{HasNoneForgotten, table_of, records_i
 
 use crate::creating::{CreateFault, create};
 use crate::file_log::FileLog;
-use crate::host::{HostFile, beside_streams};
+use crate::host::{LogHostFile, beside_streams};
 use crate::mirrored::Mirrored;
-use crate::opening::{OpenFault, open};
+use crate::opening::{LogOpenFault, open};
 use std::alloc::{AllocError, AllocFailed, Global};
 use std::fs::OpenOptions;
 use std::{fs, io};
 
 /// A log in a file of the operating system.
-pub type DiskLog = FileLog<Mirrored<HostFile>>;
+pub type DiskLog = FileLog<Mirrored<LogHostFile>>;
 
 /// Why a folder or a log isn't opened, or a log isn't made.
 #[derive(Clone, Copy, Debug, PartialEq, Eq)]
@@ -104,7 +104,7 @@ fn is_name(name: &str) -> bool {
 }
 
 // Why a call of a file failed.
-fn device_fault(file: &HostFile) -> FolderFault {
+fn device_fault(file: &LogHostFile) -> FolderFault {
     match file.failure() {
         Some(kind) => FolderFault::from(kind),
         None => FolderFault::Failed,
@@ -112,7 +112,7 @@ fn device_fault(file: &HostFile) -> FolderFault {
 }
 
 // Why no log is made: the file tells why a call of it failed.
-fn create_fault(fault: CreateFault, file: &HostFile) -> FolderFault {
+fn create_fault(fault: CreateFault, file: &LogHostFile) -> FolderFault {
     match fault {
         CreateFault::Memory => FolderFault::Memory,
         CreateFault::NotEmpty => FolderFault::Exists,
@@ -121,17 +121,17 @@ fn create_fault(fault: CreateFault, file: &HostFile) -> FolderFault {
 }
 
 // Why a file isn't opened as a log.
-fn open_fault(fault: OpenFault, file: &HostFile) -> FolderFault {
+fn open_fault(fault: LogOpenFault, file: &LogHostFile) -> FolderFault {
     match fault {
-        OpenFault::Memory => FolderFault::Memory,
-        OpenFault::NotALog => FolderFault::NotALog,
-        OpenFault::Damaged => FolderFault::Damaged,
-        OpenFault::Failed => device_fault(file),
+        LogOpenFault::Memory => FolderFault::Memory,
+        LogOpenFault::NotALog => FolderFault::NotALog,
+        LogOpenFault::Damaged => FolderFault::Damaged,
+        LogOpenFault::Failed => device_fault(file),
     }
 }
 
 // The device of a file.
-fn device_of(alloc: Global, file: HostFile) -> Result<Mirrored<HostFile>, FolderFault>
+fn device_of(alloc: Global, file: LogHostFile) -> Result<Mirrored<LogHostFile>, FolderFault>
     ensures { IfOk result (λ m. Only m.bytes.items (leaves m.past.items)) }
 {
     match Mirrored::new(alloc, file) {
@@ -158,7 +158,7 @@ fn new_log(rt: &HostRuntime, path: &str, folder: &str, slots: u32) -> Result<Dis
     ensures failures { IfOk result (λ log. log.failures ≡ 0) }
 {
     let alloc = rt.alloc();
-    let device = device_of(alloc, HostFile::create(rt, path, folder)?)?;
+    let device = device_of(alloc, LogHostFile::create(rt, path, folder)?)?;
     match create(alloc, device, slots) {
         Ok(log) => Ok(log),
         Err((fault, device)) => Err(create_fault(fault, &device.into_file())),
@@ -268,7 +268,7 @@ impl LogFolder {
     {
         let alloc = rt.alloc();
         let path = self.path_of(alloc, name)?;
-        let device = device_of(alloc, HostFile::open(rt, &path)?)?;
+        let device = device_of(alloc, LogHostFile::open(rt, &path)?)?;
         match open(alloc, device) {
             Ok(opened) => Ok(opened),
             Err((fault, device)) => Err(open_fault(fault, &device.into_file())),

@@ -1,9 +1,9 @@
 //! A file of the operating system.
 ghost use Rattle.std.specs.Prelude.{◌≡◌};
-ghost use Rattle.xa_log_file.specs.FileNotes.{found_by, given_by, kept_by, told_by};
+ghost use Rattle.xa_log_file.specs.FileNotes.{log_found_by, log_given_by, log_kept_by, log_told_by};
 
-use crate::device::{DeviceFault, ReadFault};
-use crate::mirrored::Backing;
+use crate::device::{LogDeviceFault, LogReadFault};
+use crate::mirrored::LogBacking;
 use crate::notes::Notes;
 use std::alloc::Global;
 use std::fs::OpenOptions;
@@ -13,7 +13,7 @@ use std::{fs, io};
 
 /// An open file, which no other handle has open as a log, of this process or another.
 #[derive(Drop)]
-pub struct HostFile {
+pub struct LogHostFile {
     file: fs::File,
     failure: Option<io::ErrorKind>,
     // What succeeded: that each call is noted as it was is trusted.
@@ -29,26 +29,26 @@ pub(crate) fn beside_streams(file: fs::File) -> io::Result<fs::File> {
     Ok(file)
 }
 
-impl HostFile {
+impl LogHostFile {
     /// Opens the file at the path, which has to be there. One that is open as a log already is `WouldBlock`. Where
     /// standard input, output or error is closed, it is `NotConnected`.
-    pub fn open(rt: &HostRuntime, path: &str) -> io::Result<HostFile> {
+    pub fn open(rt: &HostRuntime, path: &str) -> io::Result<LogHostFile> {
         let file = OpenOptions::new().read(true).write(true).open(rt, path)?;
-        HostFile::locked(beside_streams(file)?)
+        LogHostFile::locked(beside_streams(file)?)
     }
 
     /// Makes the file at the path, where none may be, and has its folder keep its name: the folder is that of the path.
     /// Where standard input, output or error is closed, it is `NotConnected`, and nothing is made.
-    pub fn create(rt: &HostRuntime, path: &str, folder: &str) -> io::Result<HostFile> {
+    pub fn create(rt: &HostRuntime, path: &str, folder: &str) -> io::Result<LogHostFile> {
         let folder = beside_streams(fs::File::open(rt, folder)?)?;
         let file = fs::File::create_new(rt, path)?;
         folder.sync_all()?;
-        HostFile::locked(file)
+        LogHostFile::locked(file)
     }
 
-    fn locked(file: fs::File) -> io::Result<HostFile> {
+    fn locked(file: fs::File) -> io::Result<LogHostFile> {
         file.try_lock()?;
-        Ok(HostFile {
+        Ok(LogHostFile {
             file,
             failure: None,
             notes: Notes::new(),
@@ -61,24 +61,24 @@ impl HostFile {
     }
 
     // Remembers why a call failed.
-    fn failed(&mut self, error: &io::Error) -> DeviceFault
+    fn failed(&mut self, error: &io::Error) -> LogDeviceFault
         ensures same { self.new ≡ record self.old { failure = self.new.failure } }
     {
         self.failure = Some(error.kind());
-        DeviceFault
+        LogDeviceFault
     }
 }
 
-impl Backing for HostFile {
-    ghost told = { λ f. told_by f.notes.sizes.items };
+impl LogBacking for LogHostFile {
+    ghost told = { λ f. log_told_by f.notes.sizes.items };
 
-    ghost found = { λ f. found_by f.notes.calls.items };
+    ghost found = { λ f. log_found_by f.notes.calls.items };
 
-    ghost given = { λ f. given_by f.notes.calls.items };
+    ghost given = { λ f. log_given_by f.notes.calls.items };
 
-    ghost kept = { λ f. kept_by f.notes.syncs.items };
+    ghost kept = { λ f. log_kept_by f.notes.syncs.items };
 
-    fn size(&mut self) -> Result<u64, DeviceFault> {
+    fn size(&mut self) -> Result<u64, LogDeviceFault> {
         let found = match self.file.metadata() {
             Ok(found) => found,
             Err(error) => return Err(self.failed(&error)),
@@ -88,17 +88,17 @@ impl Backing for HostFile {
         Ok(size)
     }
 
-    fn read_all(&mut self, alloc: Global, len: usize) -> Result<Vec<u8>, ReadFault> {
+    fn read_all(&mut self, alloc: Global, len: usize) -> Result<Vec<u8>, LogReadFault> {
         let mut bytes = vec![in alloc; 0; len]?;
         if let Err(error) = self.file.read_exact_at(&mut bytes, 0) {
             self.failed(&error);
-            return Err(ReadFault::Failed);
+            return Err(LogReadFault::Failed);
         }
         self.notes.add_read(&bytes);
         Ok(bytes)
     }
 
-    fn rewrite(&mut self, bytes: &Vec<u8>) -> Result<(), DeviceFault> {
+    fn rewrite(&mut self, bytes: &Vec<u8>) -> Result<(), LogDeviceFault> {
         if let Err(error) = self.file.write_all_at(bytes, 0) {
             return Err(self.failed(&error));
         }
@@ -106,7 +106,7 @@ impl Backing for HostFile {
         Ok(())
     }
 
-    fn write_part(&mut self, copy: &Vec<u8>, at: usize, len: usize) -> Result<(), DeviceFault> {
+    fn write_part(&mut self, copy: &Vec<u8>, at: usize, len: usize) -> Result<(), LogDeviceFault> {
         let part = &copy[at..at + len];
         if let Err(error) = self.file.write_all_at(part, at as u64) {
             return Err(self.failed(&error));
@@ -115,7 +115,7 @@ impl Backing for HostFile {
         Ok(())
     }
 
-    fn sync_all(&mut self) -> Result<(), DeviceFault> {
+    fn sync_all(&mut self) -> Result<(), LogDeviceFault> {
         if let Err(error) = self.file.sync_data() {
             return Err(self.failed(&error));
         }

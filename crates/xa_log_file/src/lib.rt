@@ -25,20 +25,21 @@
 //! then commits what is prepared. `FileLog::shut_forgotten` shuts these gates at once, as at a clean end.
 //!
 //! `create` makes a log in an empty file; `open` reads one, and writes nothing. Both take a `Device`, whose contract
-//! says what a crash may leave. `Mirrored` is one over any `Backing`, and `HostFile` is a file of the operating system.
+//! says what a crash may leave. `Mirrored` is one over any `LogBacking`, and `LogHostFile` is a file of the operating
+//! system.
 //! `Mirrored::new` judges the size before it reads, and the head before it writes: no other file is touched.
 //!
 //! That a file is given the bytes of its device, and that the disk is asked to keep them at each sync, is proved
 //! (`Mirrored`). Trusted and not proved is of the file, its file system and its disk:
 //!
-//! * that `HostFile` notes its calls as they were: what was read, rewritten, written, and synced (`Notes`);
+//! * that `LogHostFile` notes its calls as they were: what was read, rewritten, written, and synced (`Notes`);
 //! * that a sync which succeeded keeps what was written before it, and the length of the file with it;
 //! * that a crash leaves the bytes beside a write that it tore: slots aren't aligned to sectors, so a disk that loses
 //!   a whole sector as it writes a part of it may lose the records beside;
 //! * that a byte which is written alone is there or not, as a gate is;
 //! * that bytes which are written once more, as a log is opened, stay through a crash where they are on the disk, and
-//!   that a sync then keeps all that was read (`Backing::rewrite`). Until that sync a crash may leave what the disk has
-//!   in place of what was read; no record was told by then;
+//! that a sync then keeps all that was read (`LogBacking::rewrite`). Until that sync a crash may leave what the disk
+//! has in place of what was read; no record was told by then;
 //! * that a sync of the folder keeps the name of a new log;
 //! * that the lock is held against each other process: it is advisory, so only one that asks for it is refused;
 //! * that no sector turns to zeros: a gate of 0 is a free slot, so records in a sector of zeros are hidden, and no
@@ -50,14 +51,13 @@ mod creating;
 mod device;
 mod file_log;
 mod folder;
-mod group;
-mod group_log;
 mod host;
 pub mod laws;
 mod layout;
 mod mirrored;
 mod notes;
 mod opening;
+mod recording;
 mod shutting;
 mod slot;
 mod slot_table;
@@ -67,10 +67,10 @@ mod writing;
 
 pub use condition::Condition;
 pub use creating::{CreateFault, create};
-pub use device::{Device, DeviceFault, ReadFault};
+pub use device::{Device, LogDeviceFault, LogReadFault};
 pub use file_log::FileLog;
 pub use folder::{DiskLog, FolderFault, LogFolder};
-pub use host::HostFile;
-pub use mirrored::{Backing, Call, Mirrored};
-pub use opening::{OpenFault, open};
-pub use slot::Slot;
+pub use host::LogHostFile;
+pub use mirrored::{DeviceCall, LogBacking, Mirrored};
+pub use opening::{LogOpenFault, open};
+pub use slot::LogSlot;

@@ -1,7 +1,7 @@
 //! What was read of a file and written to it, which only proofs read.
 ghost use Rattle.std.specs.Prelude.{◌≡◌};
-ghost use Rattle.xa_log_file.specs.Device.{overwritten};
-ghost use Rattle.xa_log_file.specs.FileNotes.{found_by, given_by, kept_by, part, told_by};
+ghost use Rattle.xa_log_file.specs.Device.{log_overwritten};
+ghost use Rattle.xa_log_file.specs.FileNotes.{log_found_by, log_given_by, log_kept_by, log_part, log_told_by};
 
 use http_server::Log;
 
@@ -39,7 +39,7 @@ impl Notes {
 
     /// The file has so many bytes.
     pub(crate) fn add_size(&mut self, size: u64)
-        ensures told { told_by self.new.sizes.items ≡ size }
+        ensures told { log_told_by self.new.sizes.items ≡ size }
         ensures calls { self.new.calls ≡ self.old.calls }
         ensures syncs { self.new.syncs ≡ self.old.syncs }
     {
@@ -48,8 +48,8 @@ impl Notes {
 
     /// A read, which returned these bytes.
     pub(crate) fn add_read(&mut self, bytes: &Vec<u8>)
-        ensures found { found_by self.new.calls.items ≡ bytes.now.items }
-        ensures given { given_by self.new.calls.items ≡ given_by self.old.calls.items }
+        ensures found { log_found_by self.new.calls.items ≡ bytes.now.items }
+        ensures given { log_given_by self.new.calls.items ≡ log_given_by self.old.calls.items }
         ensures sizes { self.new.sizes ≡ self.old.sizes }
     {
         self.calls = self.calls.and(&FileCall::Read, bytes);
@@ -57,25 +57,25 @@ impl Notes {
 
     /// These bytes were written once more.
     pub(crate) fn add_rewrite(&mut self, bytes: &Vec<u8>)
-        ensures given { given_by self.new.calls.items ≡ bytes.now.items }
-        ensures kept { kept_by self.new.syncs.items ≡ kept_by self.old.syncs.items }
+        ensures given { log_given_by self.new.calls.items ≡ bytes.now.items }
+        ensures kept { log_kept_by self.new.syncs.items ≡ log_kept_by self.old.syncs.items }
     {
         self.calls = self.calls.and(&FileCall::Rewrote, bytes);
     }
 
     /// The part of the copy at this offset, of so many bytes, was written at its place.
     pub(crate) fn add_write(&mut self, copy: &Vec<u8>, at: usize, len: usize)
-        ensures given { given_by self.new.calls.items
-            ≡ overwritten (given_by self.old.calls.items) at (part at len copy.now.items) }
-        ensures kept { kept_by self.new.syncs.items ≡ kept_by self.old.syncs.items }
+        ensures given { log_given_by self.new.calls.items
+            ≡ log_overwritten (log_given_by self.old.calls.items) at (log_part at len copy.now.items) }
+        ensures kept { log_kept_by self.new.syncs.items ≡ log_kept_by self.old.syncs.items }
     {
         self.calls = self.calls.and(&FileCall::Wrote(at, len), copy);
     }
 
     /// The disk keeps all that was written.
     pub(crate) fn add_sync(&mut self)
-        ensures given { given_by self.new.calls.items ≡ given_by self.old.calls.items }
-        ensures kept { kept_by self.new.syncs.items ≡ given_by self.old.calls.items }
+        ensures given { log_given_by self.new.calls.items ≡ log_given_by self.old.calls.items }
+        ensures kept { log_kept_by self.new.syncs.items ≡ log_given_by self.old.calls.items }
     {
         self.syncs = self.syncs.and(&(), &self.calls);
     }

@@ -4,15 +4,15 @@ ghost use Rattle.std.specs.Prelude.{IfOk, IfErr, IfNone, IfSome, None, Some, tak
 ghost use Rattle.xa_log.specs.declared.log.CommitRecord.{CommitRecord};
 ghost use Rattle.xa_log.specs.Log.{Records};
 ghost use Rattle.xa_log_file.specs.declared.condition.Condition.TheVariants.{Ready};
-ghost use Rattle.xa_log_file.specs.declared.opening.OpenFault.TheVariants.{Memory, Failed, NotALog, Damaged};
+ghost use Rattle.xa_log_file.specs.declared.opening.LogOpenFault.TheVariants.{Memory, Failed, NotALog, Damaged};
 ghost use Rattle.xa_log_file.specs.Device.{Only, LeavesOnly};
 ghost use Rattle.xa_log_file.specs.RecordBytes.{head};
-ghost use Rattle.xa_log_file.specs.declared.slot.Slot.TheVariants.{Free};
+ghost use Rattle.xa_log_file.specs.declared.slot.LogSlot.TheVariants.{Free};
 ghost use Rattle.xa_log_file.specs.Slots.{slot, IsHeaded, IsSlotOf, StandsFor, HasRecords, IsNoLog, MayBeLog};
 ghost use Rattle.xa_log_file.specs.Memory.{HasNoneForgotten, table_of, records_in};
 
 use crate::condition::Condition;
-use crate::device::{Device, DeviceFault, ReadFault};
+use crate::device::{Device, LogDeviceFault, LogReadFault};
 use crate::file_log::FileLog;
 use crate::layout::{HEAD, MOST, OPEN, SHUT, SLOT};
 use crate::slot_table::SlotTable;
@@ -22,7 +22,7 @@ use xa_log::CommitRecord;
 
 /// Why a file isn't opened. It is left as it was.
 #[derive(Clone, Copy, Debug, PartialEq, Eq)]
-pub enum OpenFault {
+pub enum LogOpenFault {
     Memory,
     /// The device failed.
     Failed,
@@ -33,38 +33,38 @@ pub enum OpenFault {
     Damaged,
 }
 
-impl From<AllocError> for OpenFault {
+impl From<AllocError> for LogOpenFault {
     ghost from_gives = { λ _ e. e ≡ Memory };
 
     fn from(_: AllocError) -> Self {
-        OpenFault::Memory
+        LogOpenFault::Memory
     }
 }
 
-impl<T: Drop> From<AllocFailed<T>> for OpenFault {
+impl<T: Drop> From<AllocFailed<T>> for LogOpenFault {
     ghost from_gives = { λ _ e. e ≡ Memory };
 
     fn from(_: AllocFailed<T>) -> Self {
-        OpenFault::Memory
+        LogOpenFault::Memory
     }
 }
 
-impl From<ReadFault> for OpenFault {
+impl From<LogReadFault> for LogOpenFault {
     ghost from_gives = { λ _ e. (e ≡ Memory) ⊎ (e ≡ Failed) };
 
-    fn from(fault: ReadFault) -> Self {
+    fn from(fault: LogReadFault) -> Self {
         match fault {
-            ReadFault::Memory => OpenFault::Memory,
-            ReadFault::Failed => OpenFault::Failed,
+            LogReadFault::Memory => LogOpenFault::Memory,
+            LogReadFault::Failed => LogOpenFault::Failed,
         }
     }
 }
 
-impl From<DeviceFault> for OpenFault {
+impl From<LogDeviceFault> for LogOpenFault {
     ghost from_gives = { λ _ e. e ≡ Failed };
 
-    fn from(_: DeviceFault) -> Self {
-        OpenFault::Failed
+    fn from(_: LogDeviceFault) -> Self {
+        LogOpenFault::Failed
     }
 }
 
@@ -108,7 +108,7 @@ fn read_slot(slot: &[u8]) -> Option<Option<CommitRecord>>
 }
 
 // The record of each slot of a file, where it has one.
-fn read_slots(alloc: Global, bytes: &[u8], count: usize) -> Result<SlotTable, OpenFault>
+fn read_slots(alloc: Global, bytes: &[u8], count: usize) -> Result<SlotTable, LogOpenFault>
     requires few { count ≤ 65536 }
     requires size { length bytes.now ≡ 18 + 94 * count }
     requires header { take 18 bytes.now ≡ head count }
@@ -119,11 +119,11 @@ fn read_slots(alloc: Global, bytes: &[u8], count: usize) -> Result<SlotTable, Op
     let mut table = SlotTable::new(alloc, count)?;
     for place in 0..count {
         let Some(found) = read_slot(slot_of(bytes, place)) else {
-            return Err(OpenFault::Damaged);
+            return Err(LogOpenFault::Damaged);
         };
         if let Some(record) = found {
             if table.place_of(&record.tran).is_some() {
-                return Err(OpenFault::Damaged);
+                return Err(LogOpenFault::Damaged);
             }
             table.take(place, record);
         }
@@ -161,20 +161,20 @@ pub(crate) fn may_be_log(bytes: &[u8]) -> bool
     }
 }
 
-fn read_table(alloc: Global, bytes: &[u8]) -> Result<SlotTable, OpenFault>
+fn read_table(alloc: Global, bytes: &[u8]) -> Result<SlotTable, LogOpenFault>
     ensures stands { IfOk result (λ table. StandsFor (table_of table.slots.items) bytes.now) }
     ensures none_forgotten { IfOk result (λ table. HasNoneForgotten table.slots.items) }
     ensures refused { IfErr result (λ fault. fault ≢ Memory → IsNoLog bytes.now) }
 {
     let Some(count) = count_of(bytes) else {
-        return Err(OpenFault::NotALog);
+        return Err(LogOpenFault::NotALog);
     };
     read_slots(alloc, bytes, count)
 }
 
 /// Opens a file that a crash may have left. It writes nothing, so a crash leaves what was there, and an `Err` hands the
 /// file back.
-pub fn open<D: Device>(alloc: Global, device: D) -> Result<FileLog<D>, (OpenFault, D)>
+pub fn open<D: Device>(alloc: Global, device: D) -> Result<FileLog<D>, (LogOpenFault, D)>
     // After a restart, what is read is what is on the disk.
     requires { Only (D.seen device) (D.may_leave device) }
 
@@ -198,7 +198,7 @@ pub fn open<D: Device>(alloc: Global, device: D) -> Result<FileLog<D>, (OpenFaul
     let mut device = device;
     let bytes = match device.read(alloc) {
         Ok(bytes) => bytes,
-        Err(fault) => return Err((OpenFault::from(fault), device)),
+        Err(fault) => return Err((LogOpenFault::from(fault), device)),
     };
     match read_table(alloc, &bytes) {
         Ok(table) => Ok(FileLog {

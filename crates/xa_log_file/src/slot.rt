@@ -4,7 +4,7 @@ use xa_log::CommitRecord;
 
 /// What the log has of a slot.
 #[derive(Clone, Copy, Debug)]
-pub enum Slot {
+pub enum LogSlot {
     /// Its gate is shut.
     Free,
     /// It has a record.

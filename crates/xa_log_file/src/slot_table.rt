@@ -8,11 +8,11 @@ ghost use Rattle.std.specs.HashMap.{hash_map_len, spare};
 ghost use Rattle.std.proofs.Props.{props};
 ghost use Rattle.xa_words.specs.Tran.{tran_eq};
 ghost use Rattle.xa_log.specs.Log.{is_among};
-ghost use Rattle.xa_log_file.specs.declared.slot.Slot.TheVariants.{Free, Taken};
-ghost use Rattle.xa_log_file.specs.Memory.{HasName, HasNoName, HasRoomFor, AreNewNames, IsIndexOf, HasNoFree};
+ghost use Rattle.xa_log_file.specs.declared.slot.LogSlot.TheVariants.{Free, Taken};
+ghost use Rattle.xa_log_file.specs.Memory.{HasName, HasNoName, HasFreeSlots, AreNewNames, IsIndexOf, HasNoFree};
 ghost use Rattle.xa_log_file.specs.Memory.{placed, shut, forgets, used};
 
-use crate::slot::Slot;
+use crate::slot::LogSlot;
 use std::alloc::{AllocError, Global};
 use std::collections::HashMap;
 use xa_log::CommitRecord;
@@ -21,7 +21,7 @@ use xa_words::Tran;
 /// The slots, with the place of each transaction, so that none is looked for.
 #[derive(Drop)]
 pub(crate) struct SlotTable {
-    pub(crate) slots: Vec<Slot>,
+    pub(crate) slots: Vec<LogSlot>,
     // Where the record of a transaction is, be it forgotten or not.
     places: HashMap<Tran, usize>,
     // Before this place no slot is free.
@@ -35,7 +35,7 @@ pub(crate) struct SlotTable {
 }
 
 // Frees the slots of forgotten records, and makes the index of the others anew: so it has room again for all.
-fn shut_all(slots: &mut Vec<Slot>, places: &mut HashMap<Tran, usize>)
+fn shut_all(slots: &mut Vec<LogSlot>, places: &mut HashMap<Tran, usize>)
     requires indexed { IsIndexOf (from_entries places.old.entries) slots.old.items }
     requires capacity { length slots.old.items ≤ hash_map_len places.old + spare places.old }
     ensures slots { slots.new.items ≡ map shut slots.old.items }
@@ -46,23 +46,23 @@ fn shut_all(slots: &mut Vec<Slot>, places: &mut HashMap<Tran, usize>)
     places.clear();
     for place in 0..slots.len() {
         match slots[place] {
-            Slot::Free => {}
-            Slot::Taken(decision) => {
+            LogSlot::Free => {}
+            LogSlot::Taken(decision) => {
                 let put: Result<_, _> = places.insert(decision.tran, place);
                 let _ = put.unwrap();
             }
-            Slot::Forgotten(_) => slots[place] = Slot::Free,
+            LogSlot::Forgotten(_) => slots[place] = LogSlot::Free,
         }
     }
 }
 
 // The slot, forgotten where its transaction isn't one of these.
-fn kept(slot: &Slot, trans: &[Tran]) -> Slot
+fn kept(slot: &LogSlot, trans: &[Tran]) -> LogSlot
     ensures { result ≡ forgets (λ t. not (is_among trans.now t)) slot.now }
 {
-    if let Slot::Taken(decision) = slot {
+    if let LogSlot::Taken(decision) = slot {
         if !trans.contains(&decision.tran) {
-            return Slot::Forgotten(*decision);
+            return LogSlot::Forgotten(*decision);
         }
     }
     *slot
@@ -70,7 +70,7 @@ fn kept(slot: &Slot, trans: &[Tran]) -> Slot
 
 // Forgets all records but those of these transactions.
 #[tactic(auto, using(crate::proofs::Places::mapping))]
-fn forget_others(slots: &mut Vec<Slot>, trans: &[Tran])
+fn forget_others(slots: &mut Vec<LogSlot>, trans: &[Tran])
     ensures { slots.new.items ≡ map (forgets (λ t. not (is_among trans.now t))) slots.old.items }
 {
     for place in 0..slots.len() {
@@ -83,7 +83,7 @@ impl SlotTable {
     pub(crate) fn new(alloc: Global, count: usize) -> Result<SlotTable, AllocError>
         ensures { IfOk result (λ table. table.slots.items ≡ replicate count Free) }
     {
-        let slots = vec![in alloc; Slot::Free; count]?;
+        let slots = vec![in alloc; LogSlot::Free; count]?;
         let places = HashMap::with_capacity(alloc, count)?;
         Ok(SlotTable {
             slots,
@@ -110,28 +110,13 @@ impl SlotTable {
         ensures none { IfNone result (HasNoFree self.old.slots.items (length self.old.slots.items)) }
     {
         for place in self.first..self.slots.len() {
-            if let Slot::Free = self.slots[place] {
+            if let LogSlot::Free = self.slots[place] {
                 self.first = place;
                 return Some(place);
             }
         }
         self.first = self.slots.len();
         None
-    }
-
-    /// The first slot that is free, where none has the transaction.
-    pub(crate) fn free_place_for(&mut self, tran: &Tran) -> Option<usize>
-        ensures slots { self.new.slots.items ≡ self.old.slots.items }
-        ensures new { OnSome result (HasNoName self.old.slots.items tran.now) }
-        ensures free { IfSome result (λ place. (place < length self.old.slots.items)
-            × (slice_index_or self.old.slots.items place Free ≡ Free)) }
-        ensures none { IfNone result (HasNoFree self.old.slots.items (length self.old.slots.items)
-            ⊎ ((k : ℕ) × HasName self.old.slots.items k tran.now)) }
-    {
-        if self.place_of(tran).is_some() {
-            return None;
-        }
-        self.free_place()
     }
 
     /// Puts a record into a free slot.
@@ -143,7 +128,7 @@ impl SlotTable {
     {
         let put: Result<_, _> = self.places.insert(decision.tran, place);
         let _ = put.unwrap();
-        self.slots[place] = Slot::Taken(decision);
+        self.slots[place] = LogSlot::Taken(decision);
     }
 
     // Whether none of the records is of a transaction that a slot has.
@@ -162,7 +147,7 @@ impl SlotTable {
 
     // Whether so many slots are free.
     fn has_free(&self, count: usize) -> bool
-        ensures room { result ≡ true → HasRoomFor self.now.slots.items count }
+        ensures room { result ≡ true → HasFreeSlots self.now.slots.items count }
         ensures full { result ≡ false → length self.now.slots.items < used self.now.slots.items + count }
     {
         let mut left = count;
@@ -170,7 +155,7 @@ impl SlotTable {
             if left == 0 {
                 return true;
             }
-            if let Slot::Free = self.slots[place] {
+            if let LogSlot::Free = self.slots[place] {
                 left -= 1;
             }
         }
@@ -180,7 +165,7 @@ impl SlotTable {
     /// Whether all records have room in free slots, and none is of a transaction that a slot has.
     pub(crate) fn has_room_for(&self, decisions: &[CommitRecord]) -> bool
         ensures unnamed { result ≡ true → All (λ r. HasNoName self.now.slots.items r.tran) decisions.now }
-        ensures room { result ≡ true → HasRoomFor self.now.slots.items (length decisions.now) }
+        ensures room { result ≡ true → HasFreeSlots self.now.slots.items (length decisions.now) }
         ensures none { result ≡ false → (length self.now.slots.items < used self.now.slots.items + length decisions.now)
             ⊎ ((r : CommitRecord) × (Contains decisions.now r × ((k : ℕ) × HasName self.now.slots.items k r.tran))) }
     {
@@ -203,7 +188,7 @@ impl SlotTable {
 
     /// Puts records into the first free slots.
     pub(crate) fn take_all(&mut self, decisions: &[CommitRecord])
-        requires room { HasRoomFor self.old.slots.items (length decisions.now) }
+        requires room { HasFreeSlots self.old.slots.items (length decisions.now) }
         requires new { AreNewNames self.old.slots.items decisions.now }
         ensures { self.new.slots.items ≡ placed self.old.slots.items decisions.now }
     {
@@ -220,8 +205,8 @@ impl SlotTable {
         ensures { self.new.slots.items ≡ map (forgets (λ t. tran_eq tran.now t)) self.old.slots.items }
     {
         if let Some(place) = self.place_of(tran) {
-            if let Slot::Taken(record) = self.slots[place] {
-                self.slots[place] = Slot::Forgotten(record);
+            if let LogSlot::Taken(record) = self.slots[place] {
+                self.slots[place] = LogSlot::Forgotten(record);
             }
         }
     }

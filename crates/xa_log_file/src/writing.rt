@@ -1,51 +1,118 @@
-//! A record into a free slot.
-ghost use Rattle.std.specs.Prelude.{◌≡◌, ◌⊎◌, ◌<◌, length, slice_index_or, slice_set};
-ghost use Rattle.std.specs.Prelude.{OnOk, IsErr, IsErrOf};
+//! Records into free slots, however many for two syncs.
+ghost use Rattle.std.specs.Prelude.{◌≡◌, ◌<◌, ◌≤◌, ◌+◌, List, ℕ, length, OnOk, IsErr, IsErrOf};
+ghost use Rattle.std.specs.List.{All};
 ghost use Rattle.xa_log.specs.declared.log.LogFault.TheVariants.{Refused};
-ghost use Rattle.xa_log_file.specs.Device.{LeavesOnly};
+ghost use Rattle.xa_log_file.specs.Device.{LeavesOnly, Only, HasCause};
 ghost use Rattle.xa_log_file.specs.RecordBytes.{IsValid};
-ghost use Rattle.xa_log_file.specs.declared.slot.Slot.TheVariants.{Free, Taken};
-ghost use Rattle.xa_log_file.specs.Slots.{Keeps, StandsFor, IsDurable};
-ghost use Rattle.xa_log_file.specs.Memory.{HasNoName, table_of};
+ghost use Rattle.xa_log_file.specs.Slots.{KeepsTable, StandsFor, IsDurable};
+ghost use Rattle.xa_log_file.specs.Memory.{MayShow, HasBodies, HasNoFree, HasFreeSlots, AreNewNames};
+ghost use Rattle.xa_log_file.specs.Memory.{table_of, placed, coming};
 
-use crate::device::Device;
+use crate::device::{Device, LogDeviceFault};
 use crate::layout::{HEAD, OPEN, SLOT};
-use crate::slot::Slot;
+use crate::slot::LogSlot;
 use crate::spelling::spelled;
-use crate::synced::put;
 use xa_log::{CommitRecord, LogFault};
 
-/// Writes a record into a free slot: its body, and once that is on the disk, its gate.
-///
-/// Where the body can't be written the gate stays closed on the disk, so the record isn't there and the answer is
-/// `Refused`; where the gate can't, nobody knows.
-pub(crate) fn write_record<D: Device>(
+// Writes the bodies of all records into the first slots that are free.
+fn write_bodies<D: Device>(
     device: &mut D,
-    slots: &[Slot],
-    place: usize,
-    decision: &CommitRecord,
+    slots: &[LogSlot],
+    first: usize,
+    decisions: &[CommitRecord],
+) -> Result<(), LogDeviceFault>
+    requires stands { StandsFor (table_of slots.now) (D.seen device.old) }
+    requires keeps { KeepsTable D.may_leave (table_of slots.now) device.old }
+    requires none_before { HasNoFree slots.now first }
+    requires first { first ≤ length slots.now }
+    requires room { HasFreeSlots slots.now (length decisions.now) }
+    ensures stands { OnOk result (StandsFor (table_of slots.now) (D.seen device.new)) }
+    ensures bodies { OnOk result (HasBodies slots.now decisions.now (D.seen device.new)) }
+    ensures keeps { KeepsTable D.may_leave (table_of slots.now) device.new }
+    ensures any_moment { LeavesOnly D.moment D.left_since device.old device.new (StandsFor (table_of slots.now)) }
+    ensures cause { HasCause (D.faults device.old) (D.faults device.new) result }
+{
+    let mut next = 0;
+    for place in first..slots.len() {
+        if next == decisions.len() {
+            return Ok(());
+        }
+        if let LogSlot::Free = slots[place] {
+            device.write_at(HEAD + SLOT * place + 1, &spelled(&decisions[next]))?;
+            next += 1;
+        }
+    }
+    Ok(())
+}
+
+// Opens the gates of the slots that have the bodies of all records.
+fn open_gates<D: Device>(
+    device: &mut D,
+    slots: &[LogSlot],
+    first: usize,
+    decisions: &[CommitRecord],
+) -> Result<(), LogDeviceFault>
+    requires settled { IsDurable D.seen D.may_leave (table_of slots.now) device.old }
+    requires bodies { HasBodies slots.now decisions.now (D.seen device.old) }
+    requires none_before { HasNoFree slots.now first }
+    requires first { first ≤ length slots.now }
+    requires room { HasFreeSlots slots.now (length decisions.now) }
+    requires valid { All IsValid decisions.now }
+    requires new { AreNewNames slots.now decisions.now }
+    ensures stands { OnOk result (StandsFor (table_of (placed slots.now decisions.now)) (D.seen device.new)) }
+    ensures now { (c : List ℕ) → D.may_leave device.new c → MayShow (coming slots.now decisions.now) c }
+    ensures any_moment { LeavesOnly D.moment D.left_since device.old device.new
+        (MayShow (coming slots.now decisions.now)) }
+    ensures cause { HasCause (D.faults device.old) (D.faults device.new) result }
+{
+    let mut next = 0;
+    for place in first..slots.len() {
+        if next == decisions.len() {
+            return Ok(());
+        }
+        if let LogSlot::Free = slots[place] {
+            device.write_at(HEAD + SLOT * place, &[OPEN])?;
+            next += 1;
+        }
+    }
+    Ok(())
+}
+
+/// Writes records into the first free slots: the bodies of all, and once these are on the disk, the gates of all.
+///
+/// Where the bodies can't be written all gates stay closed on the disk, so none of the records is there and the answer
+/// is `Refused`; where the gates can't, nobody knows.
+pub(crate) fn write_records<D: Device>(
+    device: &mut D,
+    slots: &[LogSlot],
+    first: usize,
+    decisions: &[CommitRecord],
 ) -> Result<(), LogFault>
     requires settled { IsDurable D.seen D.may_leave (table_of slots.now) device.old }
-    requires place { place < length slots.now }
-    requires free { slice_index_or slots.now place Free ≡ Free }
-    requires new { HasNoName slots.now decision.now.tran }
-    requires valid { IsValid decision.now }
+    requires none_before { HasNoFree slots.now first }
+    requires first { first ≤ length slots.now }
+    requires room { HasFreeSlots slots.now (length decisions.now) }
+    requires valid { All IsValid decisions.now }
+    requires new { AreNewNames slots.now decisions.now }
     ensures logged { OnOk result
-        (IsDurable D.seen D.may_leave (table_of (slice_set slots.now place (Taken decision.now))) device.new) }
-    ensures refused { IsErrOf result Refused → Keeps D.may_leave (table_of slots.now) device.new }
+        (IsDurable D.seen D.may_leave (table_of (placed slots.now decisions.now)) device.new) }
+    ensures refused { IsErrOf result Refused → KeepsTable D.may_leave (table_of slots.now) device.new }
 
-    // A crash at any moment leaves the records from before the call, with the new one or without.
+    // A crash at any moment leaves the records from before the call, and any of the new ones.
     ensures any_moment { LeavesOnly D.moment D.left_since device.old device.new
-        (λ c. StandsFor (table_of slots.now) c
-        ⊎ StandsFor (table_of (slice_set slots.now place (Taken decision.now))) c) }
+        (MayShow (coming slots.now decisions.now)) }
     ensures cause { IsErr result → D.faults device.old < D.faults device.new }
 {
-    let gate = HEAD + SLOT * place;
-    let body = spelled(decision);
-    let Ok(()) = put(device, gate + 1, &body) else {
+    let Ok(()) = write_bodies(device, slots, first, decisions) else {
         return Err(LogFault::Refused);
     };
-    let Ok(()) = put(device, gate, &[OPEN]) else {
+    let Ok(()) = device.sync() else {
+        return Err(LogFault::Refused);
+    };
+    let Ok(()) = open_gates(device, slots, first, decisions) else {
+        return Err(LogFault::Unknown);
+    };
+    let Ok(()) = device.sync() else {
         return Err(LogFault::Unknown);
     };
     Ok(())

@@ -5,7 +5,7 @@ use xa_words::Tran;
 
 /// What a coordinator asks of the worker.
 #[derive(Clone, Copy, Debug)]
-pub enum Ask {
+pub enum LogRequest {
     /// To append a record, which is answered.
     Append(CommitRecord),
     /// To forget the record of a transaction, which isn't.
@@ -14,7 +14,7 @@ pub enum Ask {
 
 /// What the worker answers where it was asked to append a record.
 #[derive(Clone, Copy, Debug, PartialEq, Eq)]
-pub enum Answer {
+pub enum AppendAnswer {
     /// The log has the record.
     Taken,
     /// The record isn't there, and no crash brings it.
@@ -28,7 +28,7 @@ pub enum Answer {
 pub struct Answered {
     pub from: usize,
     pub decision: CommitRecord,
-    pub answer: Answer,
+    pub answer: AppendAnswer,
 }
 
 /// What the worker does.

@@ -5,11 +5,11 @@ ghost use Rattle.xa_base.specs.declared.limits.TheConstants.{MOST_SENDERS};
 ghost use Rattle.xa_log.specs.Log.{AreNew, without_record};
 ghost use Rattle.xa_log_shared.specs.declared.ask.Deed.TheVariants.{Answers};
 ghost use Rattle.xa_log_shared.specs.declared.ask.Answered.{Answered as AnAnswer};
-ghost use Rattle.xa_log_shared.specs.declared.ask.Ask.TheVariants.{Append, Forget};
-ghost use Rattle.xa_log_shared.specs.Deeds.{AreBelow, Does, IsToldBy, answered_by, records_in, is_clash, tran_in};
+ghost use Rattle.xa_log_shared.specs.declared.ask.LogRequest.TheVariants.{Append, Forget};
+ghost use Rattle.xa_log_shared.specs.Deeds.{AreBelow, Does, IsToldBy, answered_by, records_waiting, is_clash, tran_in};
 ghost use Rattle.xa_log_shared.specs.Moves.{Moves, SentBy};
 
-use crate::ask::{Answer, Answered, Ask, Deed};
+use crate::ask::{Answered, AppendAnswer, Deed, LogRequest};
 use crate::group::{Waiting, append_group, note, note_forgetting};
 use crate::sending::send;
 use http_server::Log;
@@ -26,7 +26,7 @@ pub(crate) struct Book<L: GroupLog> {
     // Whether the log is known.
     pub(crate) is_known: bool,
     // By rising number of coordinator.
-    pub(crate) answers: Vec<Sender<Answer>>,
+    pub(crate) answers: Vec<Sender<AppendAnswer>>,
     // The records that go to the log together, each of another coordinator and another transaction.
     pub(crate) waiting: Vec<Waiting>,
     pub(crate) group: Vec<CommitRecord>,
@@ -52,17 +52,17 @@ fn clashes(waiting: &[Waiting], from: usize, tran: &Tran) -> bool
         .any(|w| w.from == from || w.decision.tran == *tran)
 }
 
-fn tran_of(ask: &Ask) -> Tran
+fn tran_of(ask: &LogRequest) -> Tran
     ensures { result ≡ tran_in ask.now }
 {
     match ask {
-        Ask::Append(decision) => decision.tran,
-        Ask::Forget(tran) => *tran,
+        LogRequest::Append(decision) => decision.tran,
+        LogRequest::Forget(tran) => *tran,
     }
 }
 
 // Sends each answer on the lane of its coordinator.
-fn send_all<R: Wait>(rt: &R, answers: &mut Vec<Sender<Answer>>, done: &[Answered])
+fn send_all<R: Wait>(rt: &R, answers: &mut Vec<Sender<AppendAnswer>>, done: &[Answered])
     requires { (k : ℕ) (d : AnAnswer) → k < length done.now → (get_or done.now k d).from < vec_len answers.old }
     ensures len { vec_len answers.new ≡ vec_len answers.old }
     ensures sent { SentBy done.now answers.old.items answers.new.items }
@@ -86,10 +86,12 @@ fn forget_in<L: GroupLog>(log: &mut L, is_known: bool, tran: &Tran)
 impl<L: GroupLog> Book<L> {
     /// Takes a request in. What is to be answered at once is; a record that is new waits for its group.
     #[tactic(auto, using(crate::proofs::Moves::moves_then))]
-    pub(crate) fn take_in<R: Wait>(&mut self, rt: &R, from: usize, ask: &Ask)
+    pub(crate) fn take_in<R: Wait>(&mut self, rt: &R, from: usize, ask: &LogRequest)
         requires place { from < vec_len self.old.answers }
-        requires new { self.old.is_known ≡ true → AreNew (L.state self.old.log) (records_in self.old.waiting.items) }
-        ensures new { self.new.is_known ≡ true → AreNew (L.state self.new.log) (records_in self.new.waiting.items) }
+        requires new { self.old.is_known ≡ true
+            → AreNew (L.state self.old.log) (records_waiting self.old.waiting.items) }
+        ensures new { self.new.is_known ≡ true
+            → AreNew (L.state self.new.log) (records_waiting self.new.waiting.items) }
         ensures len { vec_len self.new.answers ≡ vec_len self.old.answers }
         ensures moves { Moves self.old.deeds.items self.new.deeds.items self.old.is_known (L.state self.old.log)
             self.new.is_known (L.state self.new.log) self.old.answers.items self.new.answers.items
@@ -97,15 +99,17 @@ impl<L: GroupLog> Book<L> {
     {
         self.make_way(rt, from, &tran_of(ask));
         match ask {
-            Ask::Append(decision) => self.admit(rt, from, decision),
-            Ask::Forget(tran) => self.forget(from, tran),
+            LogRequest::Append(decision) => self.admit(rt, from, decision),
+            LogRequest::Forget(tran) => self.forget(from, tran),
         }
     }
 
     // A request of a coordinator whose record waits, or of a transaction whose record waits, comes after that record.
     fn make_way<R: Wait>(&mut self, rt: &R, from: usize, tran: &Tran)
-        requires new { self.old.is_known ≡ true → AreNew (L.state self.old.log) (records_in self.old.waiting.items) }
-        ensures new { self.new.is_known ≡ true → AreNew (L.state self.new.log) (records_in self.new.waiting.items) }
+        requires new { self.old.is_known ≡ true
+            → AreNew (L.state self.old.log) (records_waiting self.old.waiting.items) }
+        ensures new { self.new.is_known ≡ true
+            → AreNew (L.state self.new.log) (records_waiting self.new.waiting.items) }
         ensures apart { is_clash from tran.now self.new.waiting.items ≡ false }
         ensures short { vec_len self.new.waiting < MOST_SENDERS }
         ensures len { vec_len self.new.answers ≡ vec_len self.old.answers }
@@ -120,19 +124,21 @@ impl<L: GroupLog> Book<L> {
 
     fn admit<R: Wait>(&mut self, rt: &R, from: usize, decision: &CommitRecord)
         requires place { from < vec_len self.old.answers }
-        requires new { self.old.is_known ≡ true → AreNew (L.state self.old.log) (records_in self.old.waiting.items) }
+        requires new { self.old.is_known ≡ true
+            → AreNew (L.state self.old.log) (records_waiting self.old.waiting.items) }
         requires apart { is_clash from decision.now.tran self.old.waiting.items ≡ false }
         requires short { vec_len self.old.waiting < MOST_SENDERS }
-        ensures new { self.new.is_known ≡ true → AreNew (L.state self.new.log) (records_in self.new.waiting.items) }
+        ensures new { self.new.is_known ≡ true
+            → AreNew (L.state self.new.log) (records_waiting self.new.waiting.items) }
         ensures len { vec_len self.new.answers ≡ vec_len self.old.answers }
         ensures moves { Moves self.old.deeds.items self.new.deeds.items self.old.is_known (L.state self.old.log)
             self.new.is_known (L.state self.new.log) self.old.answers.items self.new.answers.items
             self.old.waiting.items self.new.waiting.items ((from, Append decision.now) ∷ []) }
     {
         if !self.log.is_known() {
-            self.answer(rt, from, decision, Answer::Unknown);
+            self.answer(rt, from, decision, AppendAnswer::Unknown);
         } else if self.log.has(&decision.tran).is_some() {
-            self.answer(rt, from, decision, Answer::Refused);
+            self.answer(rt, from, decision, AppendAnswer::Refused);
         } else {
             self.waiting.push_reserved(Waiting {
                 from,
@@ -144,8 +150,10 @@ impl<L: GroupLog> Book<L> {
     #[tactic(auto, using(crate::proofs::Moves::forgetting))]
     fn forget(&mut self, from: usize, tran: &Tran)
         requires apart { is_clash from tran.now self.old.waiting.items ≡ false }
-        requires new { self.old.is_known ≡ true → AreNew (L.state self.old.log) (records_in self.old.waiting.items) }
-        ensures new { self.new.is_known ≡ true → AreNew (L.state self.new.log) (records_in self.new.waiting.items) }
+        requires new { self.old.is_known ≡ true
+            → AreNew (L.state self.old.log) (records_waiting self.old.waiting.items) }
+        ensures new { self.new.is_known ≡ true
+            → AreNew (L.state self.new.log) (records_waiting self.new.waiting.items) }
         ensures len { vec_len self.new.answers ≡ vec_len self.old.answers }
         ensures moves { Moves self.old.deeds.items self.new.deeds.items self.old.is_known (L.state self.old.log)
             self.new.is_known (L.state self.new.log) self.old.answers.items self.new.answers.items
@@ -156,7 +164,13 @@ impl<L: GroupLog> Book<L> {
     }
 
     // Answers a record that doesn't go to the log.
-    fn answer<R: Wait>(&mut self, rt: &R, from: usize, decision: &CommitRecord, answer: Answer)
+    fn answer<R: Wait>(
+        &mut self,
+        rt: &R,
+        from: usize,
+        decision: &CommitRecord,
+        answer: AppendAnswer,
+    )
         requires place { from < vec_len self.old.answers }
         requires apart { is_clash from decision.now.tran self.old.waiting.items ≡ false }
         requires does { Does self.old.is_known (L.state self.old.log)
@@ -174,7 +188,8 @@ impl<L: GroupLog> Book<L> {
 
     /// Appends the records that wait, and then answers each.
     pub(crate) fn close_group<R: Wait>(&mut self, rt: &R)
-        requires new { self.old.is_known ≡ true → AreNew (L.state self.old.log) (records_in self.old.waiting.items) }
+        requires new { self.old.is_known ≡ true
+            → AreNew (L.state self.old.log) (records_waiting self.old.waiting.items) }
         ensures none { self.new.waiting.items ≡ [] }
         ensures len { vec_len self.new.answers ≡ vec_len self.old.answers }
         ensures moves { Moves self.old.deeds.items self.new.deeds.items self.old.is_known (L.state self.old.log)

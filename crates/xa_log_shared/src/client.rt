@@ -3,11 +3,12 @@ ghost use Rattle.std.specs.Prelude.{◌≡◌, true, false, is_some, refl};
 ghost use Rattle.std.specs.FinMap.{insert};
 ghost use Rattle.xa_lane.specs.Senders.{but_full};
 ghost use Rattle.xa_log.specs.Log.{record_in, without_record};
-ghost use Rattle.xa_log_shared.specs.Asking.{Appended, AsksFor, IsAnswered, IsFull, Forgets};
-ghost use Rattle.xa_log_shared.specs.Asking.{AsksToForget, AsksToForgetAll, client_state, decision, others, records_of};
-ghost use Rattle.xa_log_shared.specs.declared.ask.Answer.TheVariants.{Unknown};
+ghost use Rattle.xa_log_shared.specs.Asking.{Appended, AsksToAppend, IsWorkersAnswer, HasNoRoomForMore, Forgets};
+ghost use Rattle.xa_log_shared.specs.Asking.{AsksToForget, AsksToForgetAll, client_state, decision, others};
+ghost use Rattle.xa_log_shared.specs.Asking.{own_records};
+ghost use Rattle.xa_log_shared.specs.declared.ask.AppendAnswer.TheVariants.{Unknown};
 
-use crate::ask::{Answer, Ask};
+use crate::ask::{AppendAnswer, LogRequest};
 use crate::sending::{finish, send};
 use crossbeam_utils::Backoff;
 use std::collections::HashMap;
@@ -23,8 +24,8 @@ use xa_words::{ManagerSet, Tran};
 #[derive(Drop)]
 pub struct LogClient<R: Wait + Copy> {
     pub(crate) rt: R,
-    pub(crate) asks: Sender<Ask>,
-    pub(crate) answers: Receiver<Answer>,
+    pub(crate) asks: Sender<LogRequest>,
+    pub(crate) answers: Receiver<AppendAnswer>,
     pub(crate) records: HashMap<Tran, ManagerSet>,
     // How many records there may be.
     pub(crate) room: usize,
@@ -35,19 +36,19 @@ pub struct LogClient<R: Wait + Copy> {
 /// The ends of the lanes of a coordinator that has ended.
 #[derive(Drop)]
 pub struct EndedClient {
-    pub asks: Ended<Ask>,
-    pub answers: Receiver<Answer>,
+    pub asks: Ended<LogRequest>,
+    pub answers: Receiver<AppendAnswer>,
 }
 
 // Takes the answer to what was asked last. It is unknown where the worker has ended its lane before.
-fn next_answer<R: Wait>(rt: &R, answers: &mut Receiver<Answer>) -> Answer
-    ensures { IsAnswered result answers.old answers.new }
+fn next_answer<R: Wait>(rt: &R, answers: &mut Receiver<AppendAnswer>) -> AppendAnswer
+    ensures { IsWorkersAnswer result answers.old answers.new }
 {
     let backoff = Backoff::new();
     for _ in rt.forever() {
         match answers.take(rt) {
             Taken::Item(_, answer) => return answer,
-            Taken::EndOf(_) => return Answer::Unknown,
+            Taken::EndOf(_) => return AppendAnswer::Unknown,
             Taken::Empty => backoff.snooze(),
         }
     }
@@ -57,22 +58,22 @@ fn next_answer<R: Wait>(rt: &R, answers: &mut Receiver<Answer>) -> Answer
 // Asks the worker to append a record, and waits for the answer.
 fn ask<R: Wait>(
     rt: &R,
-    asks: &mut Sender<Ask>,
-    answers: &mut Receiver<Answer>,
+    asks: &mut Sender<LogRequest>,
+    answers: &mut Receiver<AppendAnswer>,
     decision: &CommitRecord,
-) -> Answer
-    ensures { AsksFor decision.now result asks.old asks.new answers.old answers.new }
+) -> AppendAnswer
+    ensures { AsksToAppend decision.now result asks.old asks.new answers.old answers.new }
 {
-    send(rt, asks, Ask::Append(*decision));
+    send(rt, asks, LogRequest::Append(*decision));
     next_answer(rt, answers)
 }
 
 // Puts a record among these, of which there may be so many. False where there is no room for it.
 fn put(records: &mut HashMap<Tran, ManagerSet>, room: usize, decision: &CommitRecord) -> bool
-    ensures put { result ≡ true → records_of records.new ≡ insert (records_of records.old) decision.now.tran
+    ensures put { result ≡ true → own_records records.new ≡ insert (own_records records.old) decision.now.tran
         decision.now.yes }
-    ensures unchanged { result ≡ false → records_of records.new ≡ records_of records.old }
-    ensures full { result ≡ false → IsFull room records.old }
+    ensures unchanged { result ≡ false → own_records records.new ≡ own_records records.old }
+    ensures full { result ≡ false → HasNoRoomForMore room records.old }
 {
     records.len() < room && records.insert(decision.tran, decision.yes).is_ok()
 }
@@ -80,7 +81,7 @@ fn put(records: &mut HashMap<Tran, ManagerSet>, room: usize, decision: &CommitRe
 // Asks the worker to forget the records of all transactions but these.
 fn forget_others<R: Wait>(
     rt: &R,
-    asks: &mut Sender<Ask>,
+    asks: &mut Sender<LogRequest>,
     records: &HashMap<Tran, ManagerSet>,
     trans: &[Tran],
 )
@@ -88,7 +89,7 @@ fn forget_others<R: Wait>(
 {
     for (tran, _yes) in records.iter() {
         if !trans.contains(tran) {
-            send(rt, asks, Ask::Forget(*tran));
+            send(rt, asks, LogRequest::Forget(*tran));
         }
     }
 }
@@ -116,7 +117,7 @@ impl<R: Wait + Copy> LogClient<R> {
 }
 
 impl<R: Wait + Copy> DecisionRecords for LogClient<R> {
-    ghost records = { λ l. records_of l.records };
+    ghost records = { λ l. own_records l.records };
 
     ghost knows = { λ l. l.is_known ≡ true };
 
@@ -133,12 +134,14 @@ impl<R: Wait + Copy> DecisionRecords for LogClient<R> {
 impl<R: Wait + Copy> DecisionLog for LogClient<R> {
     ghost state = { λ l. client_state l.records l.failures };
 
-    ghost appends = { λ tran yes taken old new. Appended (decision tran yes) taken (IsFull old.room old.records)
+    ghost appends = { λ tran yes taken old new. Appended (decision tran yes) taken
+        (HasNoRoomForMore old.room old.records)
         old.asks new.asks old.answers new.answers };
 
-    ghost loses = { λ tran yes old new. AsksFor (decision tran yes) Unknown old.asks new.asks old.answers new.answers };
+    ghost loses = { λ tran yes old new. AsksToAppend
+        (decision tran yes) Unknown old.asks new.asks old.answers new.answers };
 
-    ghost forgets = { λ old new. Forgets (records_of old.records) (records_of new.records) old.asks new.asks
+    ghost forgets = { λ old new. Forgets (own_records old.records) (own_records new.records) old.asks new.asks
         old.answers new.answers };
 
     ghost records_are = { λ l. refl };
@@ -149,13 +152,13 @@ impl<R: Wait + Copy> DecisionLog for LogClient<R> {
             return Err(LogFault::Refused);
         }
         match ask(&self.rt, &mut self.asks, &mut self.answers, decision) {
-            Answer::Taken => Ok(()),
-            Answer::Refused => {
+            AppendAnswer::Taken => Ok(()),
+            AppendAnswer::Refused => {
                 let _ = self.records.remove(&decision.tran);
                 self.failures = self.failures.wrapping_add(1);
                 Err(LogFault::Refused)
             }
-            Answer::Unknown => {
+            AppendAnswer::Unknown => {
                 self.is_known = false;
                 Err(LogFault::Unknown)
             }
@@ -167,15 +170,16 @@ impl<R: Wait + Copy> DecisionLog for LogClient<R> {
         ensures forgotten { client_state self.new.records self.new.failures
             ≡ without_record (client_state self.old.records self.old.failures) tran.now }
         ensures known { self.new.is_known ≡ true }
-        ensures forgets { Forgets (records_of self.old.records) (records_of self.new.records) self.old.asks
+        ensures forgets { Forgets (own_records self.old.records) (own_records self.new.records) self.old.asks
             self.new.asks self.old.answers self.new.answers }
 
         // The worker is asked where there is a record, and only then.
-        ensures asked { AsksToForget (is_some (record_in (records_of self.old.records) tran.now)) tran.now self.old.asks
+        ensures asked { AsksToForget
+            (is_some (record_in (own_records self.old.records) tran.now)) tran.now self.old.asks
             self.new.asks }
     {
         if self.records.remove(tran).is_some() {
-            send(&self.rt, &mut self.asks, Ask::Forget(*tran));
+            send(&self.rt, &mut self.asks, LogRequest::Forget(*tran));
         }
     }
 

@@ -1,6 +1,6 @@
 //! What a worker that has run gives back.
 
-use crate::ask::{Answer, Ask, Deed};
+use crate::ask::{AppendAnswer, Deed, LogRequest};
 use http_server::Log;
 use xa_lane::{Ended, Receiver};
 
@@ -10,9 +10,9 @@ pub struct LogEnds<L> {
     pub log: L,
     /// Whether the log is known.
     pub is_known: bool,
-    pub asks: Receiver<Ask>,
+    pub asks: Receiver<LogRequest>,
     /// By rising number of coordinator.
-    pub answers: Vec<Ended<Answer>>,
+    pub answers: Vec<Ended<AppendAnswer>>,
     // What was done, oldest first. It has no bytes: only proofs read it.
     pub(crate) deeds: Log<Deed, ()>,
 }

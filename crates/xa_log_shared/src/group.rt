@@ -2,9 +2,10 @@
 ghost use Rattle.std.specs.Prelude.{◌≡◌, ◌++◌, ◌∷◌, ◌≤◌, ℕ, [], true, None, length, map, vec_capacity};
 ghost use Rattle.xa_log.specs.Log.{record_of, AreNew};
 ghost use Rattle.xa_log_shared.specs.declared.ask.Deed.TheVariants.{Answers, Forgets, IsRefused};
-ghost use Rattle.xa_log_shared.specs.Deeds.{IsToldBy, Does, Settles, answered_by, answer_each, deeds_in, records_in};
+ghost use Rattle.xa_log_shared.specs.Deeds.{IsToldBy, Does, Settles, answered_by, answer_each, deeds_in};
+ghost use Rattle.xa_log_shared.specs.Deeds.{records_waiting};
 
-use crate::ask::{Answer, Answered, Deed};
+use crate::ask::{Answered, AppendAnswer, Deed};
 use http_server::Log;
 use xa_log::{CommitRecord, DecisionLog, GroupLog, LogFault};
 use xa_words::Tran;
@@ -16,7 +17,7 @@ pub(crate) struct Waiting {
     pub(crate) decision: CommitRecord,
 }
 
-fn answered(from: usize, decision: &CommitRecord, answer: Answer) -> Answered
+fn answered(from: usize, decision: &CommitRecord, answer: AppendAnswer) -> Answered
     ensures { result ≡ answered_by from decision.now answer }
 {
     Answered {
@@ -27,7 +28,12 @@ fn answered(from: usize, decision: &CommitRecord, answer: Answer) -> Answered
 }
 
 /// Notes that a record is answered.
-pub(crate) fn note(deeds: &mut Log<Deed, ()>, from: usize, decision: &CommitRecord, answer: Answer)
+pub(crate) fn note(
+    deeds: &mut Log<Deed, ()>,
+    from: usize,
+    decision: &CommitRecord,
+    answer: AppendAnswer,
+)
     ensures { deeds_in deeds.new.items
         ≡ deeds_in deeds.old.items ++ Answers (answered_by from decision.now answer) ∷ [] }
 {
@@ -51,7 +57,11 @@ fn note_refusal(deeds: &mut Log<Deed, ()>)
 }
 
 // Appends one record alone, where the log is known.
-fn append_one<L: DecisionLog>(log: &mut L, is_known: &mut bool, decision: &CommitRecord) -> Answer
+fn append_one<L: DecisionLog>(
+    log: &mut L,
+    is_known: &mut bool,
+    decision: &CommitRecord,
+) -> AppendAnswer
     requires told { IsToldBy is_known.old (L.knows log.old) }
     requires new { is_known.old ≡ true → record_of (L.state log.old) decision.now.tran ≡ None }
     ensures told { IsToldBy is_known.new (L.knows log.new) }
@@ -59,14 +69,14 @@ fn append_one<L: DecisionLog>(log: &mut L, is_known: &mut bool, decision: &Commi
         (Answers (answered_by from decision.now result) ∷ []) is_known.new (L.state log.new) }
 {
     if !log.is_known() {
-        return Answer::Unknown;
+        return AppendAnswer::Unknown;
     }
     match log.append(decision) {
-        Ok(()) => Answer::Taken,
-        Err(LogFault::Refused) => Answer::Refused,
+        Ok(()) => AppendAnswer::Taken,
+        Err(LogFault::Refused) => AppendAnswer::Refused,
         Err(LogFault::Unknown) => {
             *is_known = false;
-            Answer::Unknown
+            AppendAnswer::Unknown
         }
     }
 }
@@ -74,7 +84,7 @@ fn append_one<L: DecisionLog>(log: &mut L, is_known: &mut bool, decision: &Commi
 // Answers each of the records alike.
 fn answer_all(
     waiting: &[Waiting],
-    answer: Answer,
+    answer: AppendAnswer,
     done: &mut Vec<Answered>,
     deeds: &mut Log<Deed, ()>,
 )
@@ -100,7 +110,7 @@ fn append_each<L: DecisionLog>(
     deeds: &mut Log<Deed, ()>,
 )
     requires told { IsToldBy is_known.old (L.knows log.old) }
-    requires new { is_known.old ≡ true → AreNew (L.state log.old) (records_in waiting.now) }
+    requires new { is_known.old ≡ true → AreNew (L.state log.old) (records_waiting waiting.now) }
     requires none { done.old.items ≡ [] }
     requires room { length waiting.now ≤ vec_capacity done.old }
     ensures told { IsToldBy is_known.new (L.knows log.new) }
@@ -118,7 +128,7 @@ fn append_each<L: DecisionLog>(
 fn copy_records(waiting: &[Waiting], group: &mut Vec<CommitRecord>)
     requires none { group.old.items ≡ [] }
     requires room { length waiting.now ≤ vec_capacity group.old }
-    ensures copied { group.new.items ≡ records_in waiting.now }
+    ensures copied { group.new.items ≡ records_waiting waiting.now }
     ensures space { vec_capacity group.new ≡ vec_capacity group.old }
 {
     for one in waiting {
@@ -137,7 +147,7 @@ pub(crate) fn append_group<L: GroupLog>(
     deeds: &mut Log<Deed, ()>,
 )
     requires told { IsToldBy is_known.old (L.knows log.old) }
-    requires new { is_known.old ≡ true → AreNew (L.state log.old) (records_in waiting.now) }
+    requires new { is_known.old ≡ true → AreNew (L.state log.old) (records_waiting waiting.now) }
     requires none { done.old.items ≡ [] }
     requires empty { group.old.items ≡ [] }
     requires room { length waiting.now ≤ vec_capacity done.old }
@@ -157,10 +167,10 @@ pub(crate) fn append_group<L: GroupLog>(
     let end = log.append_all(group);
     group.clear();
     match end {
-        Ok(()) => answer_all(waiting, Answer::Taken, done, deeds),
+        Ok(()) => answer_all(waiting, AppendAnswer::Taken, done, deeds),
         Err(LogFault::Unknown) => {
             *is_known = false;
-            answer_all(waiting, Answer::Unknown, done, deeds);
+            answer_all(waiting, AppendAnswer::Unknown, done, deeds);
         }
         Err(LogFault::Refused) => {
             note_refusal(deeds);

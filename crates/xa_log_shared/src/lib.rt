@@ -13,8 +13,8 @@ mod opening;
 mod sending;
 mod worker;
 
-pub use ask::{Answer, Answered, Ask, Deed};
+pub use ask::{Answered, AppendAnswer, Deed, LogRequest};
 pub use client::{EndedClient, LogClient};
 pub use ends::LogEnds;
 pub use opening::{LogWorkerFault, open_log_worker};
-pub use worker::{LogWorker, Step};
+pub use worker::{LogWorker, LogWorkerStep};

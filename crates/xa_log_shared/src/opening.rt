@@ -3,11 +3,11 @@ ghost use Rattle.std.specs.Prelude.{◌≡◌, ◌≤◌, [], All, map, length, 
 ghost use Rattle.std.specs.HashMap.{spare};
 ghost use Rattle.xa_lane.specs.Ends.{new_senders};
 ghost use Rattle.xa_log.specs.Log.{no_records};
-ghost use Rattle.xa_log_shared.specs.Asking.{records_of};
+ghost use Rattle.xa_log_shared.specs.Asking.{own_records};
 ghost use Rattle.xa_log_shared.specs.Deeds.{IsToldBy};
 ghost use Rattle.xa_base.specs.declared.limits.TheConstants.{MOST_SENDERS};
 
-use crate::ask::{Answer, Answered, Ask};
+use crate::ask::{Answered, AppendAnswer, LogRequest};
 use crate::book::Book;
 use crate::client::LogClient;
 use crate::group::Waiting;
@@ -59,7 +59,7 @@ fn open_answers<R: Wait>(
     rt: &R,
     alloc: Global,
     index: u32,
-) -> Result<(Sender<Answer>, Receiver<Answer>), LogWorkerFault>
+) -> Result<(Sender<AppendAnswer>, Receiver<AppendAnswer>), LogWorkerFault>
     ensures sent { IfOk result (λ r. r.0.sent ≡ []) }
     ensures taken { IfOk result (λ r. r.1.taken ≡ []) }
     ensures line { IfOk result (λ r. r.1.line ≡ r.0.line) }
@@ -79,11 +79,11 @@ fn open_answers<R: Wait>(
 fn new_client<R: Wait + Copy>(
     rt: R,
     alloc: Global,
-    asks: Sender<Ask>,
-    answers: Receiver<Answer>,
+    asks: Sender<LogRequest>,
+    answers: Receiver<AppendAnswer>,
     room: usize,
 ) -> Result<LogClient<R>, LogWorkerFault>
-    ensures none { IfOk result (λ c. records_of c.records ≡ no_records.records) }
+    ensures none { IfOk result (λ c. own_records c.records ≡ no_records.records) }
     ensures known { IfOk result (λ c. c.is_known ≡ true) }
     ensures room { IfOk result (λ c. (c.room ≡ room) × (room ≤ spare c.records)) }
     ensures lanes { IfOk result (λ c. (c.asks ≡ asks) × (c.answers ≡ answers)) }
@@ -103,12 +103,12 @@ fn new_client<R: Wait + Copy>(
 // The memory of a worker, and its lanes.
 #[derive(Drop)]
 struct Parts {
-    asks: Receiver<Ask>,
-    answers: Vec<Sender<Answer>>,
+    asks: Receiver<LogRequest>,
+    answers: Vec<Sender<AppendAnswer>>,
     waiting: Vec<Waiting>,
     group: Vec<CommitRecord>,
     done: Vec<Answered>,
-    ends: Vec<Ended<Answer>>,
+    ends: Vec<Ended<AppendAnswer>>,
 }
 
 fn open_parts<R: Wait + Copy>(
@@ -122,7 +122,7 @@ fn open_parts<R: Wait + Copy>(
     ensures sent { IfOk result (λ r. All (λ s. s.sent ≡ []) r.0.answers.items) }
     ensures taken { IfOk result (λ r. r.0.asks.taken ≡ []) }
     ensures count { IfOk result (λ r. length r.1.items ≡ coordinators) }
-    ensures clients { IfOk result (λ r. All (λ c. (records_of c.records ≡ no_records.records) × (c.is_known ≡ true)
+    ensures clients { IfOk result (λ r. All (λ c. (own_records c.records ≡ no_records.records) × (c.is_known ≡ true)
         × (c.room ≡ room) × (room ≤ spare c.records) × (c.answers.taken ≡ [])) r.1.items) }
     ensures asks { IfOk result (λ r. map (λ c. c.asks) r.1.items
         ≡ new_senders r.0.asks.lane r.0.asks.line r.0.asks.capacity coordinators) }
@@ -172,7 +172,7 @@ pub fn open_log_worker<L: GroupLog, R: Wait + Copy>(
     ensures nothing { IfOk result (λ r. (r.0.book.deeds.items ≡ []) × (r.0.asks.taken ≡ [])
         × All (λ s. s.sent ≡ []) r.0.book.answers.items) }
     ensures count { IfOk result (λ r. length r.1.items ≡ coordinators) }
-    ensures clients { IfOk result (λ r. All (λ c. (records_of c.records ≡ no_records.records) × (c.is_known ≡ true)
+    ensures clients { IfOk result (λ r. All (λ c. (own_records c.records ≡ no_records.records) × (c.is_known ≡ true)
         × (c.room ≡ room) × (room ≤ spare c.records) × (c.answers.taken ≡ [])) r.1.items) }
 
     // The k-th coordinator is the k-th sender of the worker's lane, and is answered on the k-th lane of answers.

@@ -3,11 +3,11 @@ ghost use Rattle.std.specs.Prelude.{◌≡◌, ◌≤◌, ◌<◌, ℕ, true, fa
 ghost use Rattle.xa_lane.specs.Ends.{has_ended};
 ghost use Rattle.xa_lane.specs.Senders.{but_full};
 ghost use Rattle.xa_log.specs.Log.{AreNew};
-ghost use Rattle.xa_log_shared.specs.Deeds.{IsToldBy, records_in};
+ghost use Rattle.xa_log_shared.specs.Deeds.{IsToldBy, records_waiting};
 ghost use Rattle.xa_log_shared.specs.Moves.{HasNoted, Works, Steps};
 ghost use Rattle.xa_base.specs.declared.limits.TheConstants.{MOST_SENDERS};
 
-use crate::ask::{Answer, Ask};
+use crate::ask::{AppendAnswer, LogRequest};
 use crate::book::Book;
 use crate::ends::LogEnds;
 use crate::sending::finish;
@@ -19,7 +19,7 @@ use xa_log::GroupLog;
 
 /// What a step did.
 #[derive(Clone, Copy, Debug, PartialEq, Eq)]
-pub enum Step {
+pub enum LogWorkerStep {
     /// Something was taken.
     Did,
     /// Nothing was there to be taken.
@@ -35,11 +35,11 @@ const PAUSES: u32 = 32;
 #[derive(Drop)]
 pub struct LogWorker<L: GroupLog> {
     pub(crate) book: Book<L>,
-    pub(crate) asks: Receiver<Ask>,
+    pub(crate) asks: Receiver<LogRequest>,
     // Which coordinators' end marks were taken.
     pub(crate) ended: [bool; MOST_SENDERS],
     // Reserved for the ends of the lanes of answers.
-    pub(crate) ends: Vec<Ended<Answer>>,
+    pub(crate) ends: Vec<Ended<AppendAnswer>>,
     ghost closed: { vec_len book.waiting ≡ 0 },
     ghost noted: { HasNoted ended asks.taken },
     ghost lanes: { asks.senders ≡ vec_len book.answers },
@@ -53,14 +53,14 @@ pub struct LogWorker<L: GroupLog> {
 fn take_one<L: GroupLog, R: Wait>(
     rt: &R,
     book: &mut Book<L>,
-    asks: &mut Receiver<Ask>,
+    asks: &mut Receiver<LogRequest>,
     ended: &mut [bool; MOST_SENDERS],
 ) -> bool
     requires lanes { asks.old.senders ≡ vec_len book.old.answers }
     requires few { vec_len book.old.answers ≤ MOST_SENDERS }
     requires noted { HasNoted ended.old asks.old.taken }
-    requires new { book.old.is_known ≡ true → AreNew (L.state book.old.log) (records_in book.old.waiting.items) }
-    ensures new { book.new.is_known ≡ true → AreNew (L.state book.new.log) (records_in book.new.waiting.items) }
+    requires new { book.old.is_known ≡ true → AreNew (L.state book.old.log) (records_waiting book.old.waiting.items) }
+    ensures new { book.new.is_known ≡ true → AreNew (L.state book.new.log) (records_waiting book.new.waiting.items) }
     ensures noted { HasNoted ended.new asks.new.taken }
     ensures lanes { asks.new.senders ≡ asks.old.senders }
     ensures len { vec_len book.new.answers ≡ vec_len book.old.answers }
@@ -86,14 +86,14 @@ fn take_one<L: GroupLog, R: Wait>(
 fn gather<L: GroupLog, R: Wait>(
     rt: &R,
     book: &mut Book<L>,
-    asks: &mut Receiver<Ask>,
+    asks: &mut Receiver<LogRequest>,
     ended: &mut [bool; MOST_SENDERS],
-) -> Step
+) -> LogWorkerStep
     requires lanes { asks.old.senders ≡ vec_len book.old.answers }
     requires few { vec_len book.old.answers ≤ MOST_SENDERS }
     requires noted { HasNoted ended.old asks.old.taken }
-    requires new { book.old.is_known ≡ true → AreNew (L.state book.old.log) (records_in book.old.waiting.items) }
-    ensures new { book.new.is_known ≡ true → AreNew (L.state book.new.log) (records_in book.new.waiting.items) }
+    requires new { book.old.is_known ≡ true → AreNew (L.state book.old.log) (records_waiting book.old.waiting.items) }
+    ensures new { book.new.is_known ≡ true → AreNew (L.state book.new.log) (records_waiting book.new.waiting.items) }
     ensures noted { HasNoted ended.new asks.new.taken }
     ensures lanes { asks.new.senders ≡ asks.old.senders }
     ensures len { vec_len book.new.answers ≡ vec_len book.old.answers }
@@ -101,12 +101,12 @@ fn gather<L: GroupLog, R: Wait>(
         book.new.is_known (L.state book.new.log) book.old.answers.items book.new.answers.items
         book.old.waiting.items book.new.waiting.items asks.old.taken asks.new.taken }
 {
-    let mut step = Step::Empty;
+    let mut step = LogWorkerStep::Empty;
     for _ in 0..MOST_QUEUED {
         if !take_one(rt, book, asks, ended) {
             break;
         }
-        step = Step::Did;
+        step = LogWorkerStep::Did;
     }
     step
 }
@@ -116,7 +116,7 @@ impl<L: GroupLog> LogWorker<L> {
     ///
     /// A record is refused whose transaction has one in the log. Once the log isn't known, nothing is asked of it, and
     /// each record is answered `Unknown`.
-    pub fn step<R: Wait>(&mut self, rt: &R) -> Step
+    pub fn step<R: Wait>(&mut self, rt: &R) -> LogWorkerStep
         ensures steps { Steps self.old.book.deeds.items self.new.book.deeds.items self.old.book.is_known
             (L.state self.old.book.log) self.new.book.is_known (L.state self.new.book.log)
             self.old.book.answers.items self.new.book.answers.items self.old.asks.taken self.new.asks.taken }
@@ -142,11 +142,11 @@ impl<L: GroupLog> LogWorker<L> {
 
     // Idles once where nothing was there. After a step that did something it idles for so long that who was answered
     // may come back with the next record, and all go together; a coordinator that is alone isn't kept waiting.
-    fn pause<R: Wait, I: Idle>(&self, rt: &R, step: Step, idle: &mut I) {
+    fn pause<R: Wait, I: Idle>(&self, rt: &R, step: LogWorkerStep, idle: &mut I) {
         let idles = match step {
-            Step::Empty => 1,
-            Step::Did if self.book.answers.len() > 1 => PAUSES,
-            Step::Did => 0,
+            LogWorkerStep::Empty => 1,
+            LogWorkerStep::Did if self.book.answers.len() > 1 => PAUSES,
+            LogWorkerStep::Did => 0,
         };
         for _ in 0..idles {
             idle.idle(rt, 0);

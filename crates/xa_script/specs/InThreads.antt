@@ -11,19 +11,20 @@ use Rattle.xa_crew.specs.declared.client_job.Attended.{Attended}
 use Rattle.xa_crew.specs.Ending.{EndsDesk}
 use Rattle.xa_crew.specs.Pieces.{HasServed}
 use Rattle.xa_crew.specs.Run.{Member}
-use Rattle.script_transcript.specs.declared.answer.Told.{Told}
+use Rattle.script_transcript.specs.declared.answer.TranscriptLine.{TranscriptLine}
 use Rattle.xa_script.specs.declared.script_thread.ScriptThread.{ScriptThread}
 use Rattle.script_session.specs.declared.session.Session.{Session}
 use Rattle.script_session.specs.Sessions.{new_session, HasDone}
 use Rattle.script_transcript.specs.ThreadEnds.{all_ended}
 
 -- What a thread tells: what its tasks answered, and what was outstanding after them.
-abbrev pub told_by : Attended ScriptThread → List Told
-told_by t = t.client.told ++ all_ended t.client.thread t.outstanding.items
+abbrev pub lines_of_thread : Attended ScriptThread → List TranscriptLine
+lines_of_thread t = t.client.told ++ all_ended t.client.thread t.outstanding.items
 
 -- The thread did its own tasks among these steps, one after the other, with the desk and a log without a record, and
 -- came to this; then what was outstanding was collected, and the desk ended.
-pub record HasWorked (s : Content) (steps : List ScriptStep) (t : Member ScriptThread) (left : Session) : Type 0 where
+pub record HasDoneItsTasks (s : Content) (steps : List ScriptStep) (t : Member ScriptThread) (left : Session)
+    : Type 0 where
   pub own : t.attended.client.thread ≡ t.desk.thread
   pub runs : Chain HasDone (new_session s t.desk, []) (tasks_of t.desk.thread steps)
       (left, t.attended.client.told)
@@ -32,10 +33,10 @@ pub record HasWorked (s : Content) (steps : List ScriptStep) (t : Member ScriptT
 -- Each thread of the script worked with a desk of the first opening, each worker ran to the last end mark, and the
 -- answers are those of the threads by rising number.
 pub record InThreads (s : Content) (steps : List ScriptStep) (sessions left : List Session) (workers : List WorkerView)
-    (ended : List EndedView) (done : List Served) (answers : List Told) : Type 0 where
+    (ended : List EndedView) (done : List Served) (answers : List TranscriptLine) : Type 0 where
   pub threads : List (Member ScriptThread)
   pub sessions_are : sessions ≡ map (λ t. new_session s t.desk) threads
-  pub worked : Pairwise (HasWorked s steps) threads left
+  pub worked : Pairwise (HasDoneItsTasks s steps) threads left
   pub ended_are : ended ≡ map (λ t. t.ended) threads
   pub served : Pairwise HasServed workers done
-  pub answered : answers ≡ flat_map (λ t. told_by t.attended) threads
+  pub answered : answers ≡ flat_map (λ t. lines_of_thread t.attended) threads

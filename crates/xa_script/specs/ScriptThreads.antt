@@ -9,7 +9,7 @@ use Rattle.script_session.specs.Sessions.{log_of, session_of, HasDone}
 
 -- Thread t of the script before it does anything: its own tasks, no answer, a log without a record, and nothing left to
 -- scan.
-pub record IsNew (s : Content) (t : ℕ) (x : ScriptThread) : Type 0 where
+pub record IsNewThread (s : Content) (t : ℕ) (x : ScriptThread) : Type 0 where
   pub own : x.thread ≡ t
   pub log : x.log ≡ log_of s t
   pub scan : x.scan ≡ no_scan
@@ -18,7 +18,7 @@ pub record IsNew (s : Content) (t : ℕ) (x : ScriptThread) : Type 0 where
 
 -- The thread keeps its number, and unless memory was refused it did its tasks with the desk, one after the other, and
 -- has told their answers.
-pub record Works (x : ScriptThread) (d : DeskView) (x' : ScriptThread) (d' : DeskView) : Type 0 where
+pub record ThreadWorks (x : ScriptThread) (d : DeskView) (x' : ScriptThread) (d' : DeskView) : Type 0 where
   pub own : x'.thread ≡ x.thread
   pub runs : x'.wants_memory ≡ false
       → Chain HasDone (session_of d x.log x.scan, x.told) x.tasks

@@ -3,19 +3,19 @@ use Rattle.std.specs.Prelude.{◌≡◌, ℕ, ◌+◌, Some, All, List, [], ◌�
 use Rattle.std.specs.List.{flat_map}
 use Rattle.xa_base.specs.Lists.{Chain}
 use Rattle.xa_worker.specs.Workers.{WorkerView}
-use Rattle.xa_log.specs.declared.losing.LosingLog.{LosingLog}
+use Rattle.script_session.specs.Logs.{ThreadLog}
 use Rattle.script_grammar.specs.declared.step.Step.TheVariants as step
 use Rattle.script_grammar.specs.Steps.{ScriptStep}
-use Rattle.script_grammar.specs.Contents.{Content, Fits, threads_of, managers_of, AreOfOne}
-use Rattle.script_transcript.specs.declared.answer.Told.{Told}
-use Rattle.script_transcript.specs.declared.answer.Told.TheVariants.{Reopened}
+use Rattle.script_grammar.specs.Contents.{Content, Fits, threads_of, managers_of, NoneReopens}
+use Rattle.script_transcript.specs.declared.answer.TranscriptLine.{TranscriptLine}
+use Rattle.script_transcript.specs.declared.answer.TranscriptLine.TheVariants.{Reopened}
 use Rattle.script_session.specs.declared.session.Session.{Session}
 use Rattle.laws_transcript.specs.Planning.{AreOpened}
-use Rattle.laws_transcript.specs.ToldOpenings.{Beginning, Opening, Former, beginning}
+use Rattle.laws_transcript.specs.ToldOpenings.{Beginning, ToldOpening, Former, beginning}
 use Rattle.laws_transcript.specs.Runs.{BeginsAs}
-use Rattle.script_command.specs.declared.mode.Mode.TheVariants as mode
+use Rattle.script_command.specs.declared.mode.RunMode.TheVariants as mode
 use Rattle.xa_script.specs.InTurns.{HasMadeSteps, turns_at}
-use Rattle.xa_script.specs.Outcome.{HasCome, Follows}
+use Rattle.xa_script.specs.Outcome.{HasCome, FollowsOpening}
 
 -- These are the threads and the workers of an opening that begins so.
 pub record IsOpen (s : Content) (b : Beginning) (sessions : List Session) (workers : List WorkerView) : Type 0 where
@@ -23,7 +23,7 @@ pub record IsOpen (s : Content) (b : Beginning) (sessions : List Session) (worke
   pub begins : (k : ℕ) (x : Session) → slice_get sessions k ≡ Some x → BeginsAs b (k + 1) x
 
 -- An opening that begins so has come to these threads and workers by these steps, which have these answers.
-pub record Goes (s : Content) (b : Beginning) (steps : List ScriptStep) (answers : List Told)
+pub record Goes (s : Content) (b : Beginning) (steps : List ScriptStep) (answers : List TranscriptLine)
     (sessions : List Session) (workers : List WorkerView) : Type 0 where
   pub first : List Session
   pub first_workers : List WorkerView
@@ -32,7 +32,7 @@ pub record Goes (s : Content) (b : Beginning) (steps : List ScriptStep) (answers
   pub fits : All (Fits (threads_of s) (managers_of s)) steps
 
 -- It has come to what was settled, and to these logs.
-pub record IsClosed (s : Content) (b : Beginning) (o : Opening) (logs : List LosingLog) : Type 0 where
+pub record IsClosedOpening (s : Content) (b : Beginning) (o : ToldOpening) (logs : List ThreadLog) : Type 0 where
   pub left : List Session
   pub comes : HasCome mode.Turns s b o left
   pub logs_are : logs ≡ map (λ x. x.log) left
@@ -41,14 +41,14 @@ pub record IsClosed (s : Content) (b : Beginning) (o : Opening) (logs : List Los
 -- one that is open.
 pub record HasReached (s : Content) (lines : List ScriptStep) (opening : ℕ) (sessions : List Session)
     (workers : List WorkerView)
-    (answers : List Told) : Type 0 where
+    (answers : List TranscriptLine) : Type 0 where
   pub before : List Former
   pub begins : Beginning
-  pub former : Chain (Follows mode.Turns s) (beginning s) before begins
+  pub former : Chain (FollowsOpening mode.Turns s) (beginning s) before begins
   pub number : opening ≡ begins.opening
   pub own : List ScriptStep
-  pub told : List Told
+  pub told : List TranscriptLine
   pub goes : Goes s begins own told sessions workers
   pub lines_are : lines ≡ flat_map (λ f. f.opening.steps ++ step.Reopen f.line ∷ []) before ++ own
   pub answers_are : answers ≡ flat_map (λ f. f.opening.answers ++ Reopened f.line ∷ []) before ++ told
-  pub ones : All (λ f. AreOfOne f.opening.steps) before × AreOfOne own
+  pub ones : All (λ f. NoneReopens f.opening.steps) before × NoneReopens own

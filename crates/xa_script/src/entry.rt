@@ -1,23 +1,23 @@
 //! The program, over any reader and writers.
 ghost use Rattle.std.specs.Prelude.{◌≡◌, ◌≢◌, ◌⊎◌, ◌<◌, ◌≤◌, length, Err, OnOk, IfErr, IsErrOf, IfSome};
-ghost use Rattle.script_command.specs.declared.mode.Mode.{Mode};
-ghost use Rattle.script_grammar.specs.Contents.{AreOfOne};
+ghost use Rattle.script_command.specs.declared.mode.RunMode.{RunMode};
+ghost use Rattle.script_grammar.specs.Contents.{NoneReopens};
 ghost use Rattle.xa_script.specs.declared.entry.Fault.{Fault};
 ghost use Rattle.script_command.specs.Words.{AreWords, IsMode};
 ghost use Rattle.xa_script.specs.Outcome.{Writes};
-ghost use Rattle.xa_script.specs.Program.{status_of, line_text, text_of, IsJudged, ShowsRun, AppendsSome, IsFaulty};
-ghost use Rattle.xa_script.specs.Program.{FailsBy, has_threads};
+ghost use Rattle.xa_script.specs.Program.{status_of, fault_line_text, text_of, IsJudged, ShowsRun, AppendsSome};
+ghost use Rattle.xa_script.specs.Program.{IsFaulty, FailsBy, has_threads};
 
 use crate::in_threads::run_threads;
 use crate::in_turns::run_turns;
 use itoa::Buffer;
+use script_command::{RunMode, WordsFault, mode_of};
+use script_grammar::{Reason, Script, ScriptFault, read_script};
+use script_transcript::RunFault;
 use std::alloc::Global;
 use std::io::{IoSlice, Read, Write};
 use std::sync::Wait;
 use std::thread::Threads;
-use script_command::{Mode, WordsFault, mode_of};
-use script_grammar::{Reason, Script, ScriptFault, read_script};
-use script_transcript::RunFault;
 use xa_worker::Free;
 
 // What is told of want of memory, which takes none.
@@ -56,7 +56,7 @@ fn put<E: Write>(bytes: &[u8], err: &mut E)
 
 // Tells of a faulty line: its number and the reason.
 fn put_line<E: Write>(line: u32, why: Reason, err: &mut E)
-    ensures { AppendsSome (E.contents err.old) (E.contents err.new) (line_text line why) }
+    ensures { AppendsSome (E.contents err.old) (E.contents err.new) (fault_line_text line why) }
 {
     let mut number = Buffer::new();
     let parts = [
@@ -85,12 +85,12 @@ fn tell<E: Write>(fault: Fault, err: &mut E)
 }
 
 // Whether each thread of a script has a thread of its own.
-fn has_threads(mode: Mode) -> bool
+fn has_threads(mode: RunMode) -> bool
     ensures { result ≡ has_threads mode }
 {
     match mode {
-        Mode::Turns => false,
-        Mode::Threads => true,
+        RunMode::Turns => false,
+        RunMode::Threads => true,
     }
 }
 
@@ -98,17 +98,17 @@ fn has_threads(mode: Mode) -> bool
 fn run<H: Threads + Wait + Copy + Send + 'static, W: Write>(
     rt: &H,
     alloc: Global,
-    mode: Mode,
+    mode: RunMode,
     script: &Script,
     out: &mut W,
 ) -> Result<(), RunFault>
-    requires one { mode ≡ Mode.Threads → AreOfOne script.now.steps }
+    requires one { mode ≡ RunMode.Threads → NoneReopens script.now.steps }
     ensures ok { OnOk result (Writes mode script.now (W.contents out.old) (W.contents out.new)) }
     ensures memory { IsErrOf result RunFault.NoMemory → W.contents out.new ≡ W.contents out.old }
 {
     match mode {
-        Mode::Turns => run_turns(rt, alloc, script, out),
-        Mode::Threads => match Vec::from_array(alloc, [Free; 8]) {
+        RunMode::Turns => run_turns(rt, alloc, script, out),
+        RunMode::Threads => match Vec::from_array(alloc, [Free; 8]) {
             Ok(paces) => run_threads(rt, alloc, script, out, paces),
             Err(_) => Err(RunFault::NoMemory),
         },
@@ -119,7 +119,7 @@ fn run<H: Threads + Wait + Copy + Send + 'static, W: Write>(
 fn show<H: Threads + Wait + Copy + Send + 'static, R: Read, W: Write>(
     rt: &H,
     alloc: Global,
-    mode: Mode,
+    mode: RunMode,
     reader: &mut R,
     out: &mut W,
 ) -> Result<(), Fault>
@@ -153,9 +153,9 @@ fn carry_out<H: Threads + Wait + Copy + Send + 'static, R: Read, W: Write>(
     ensures several { length words.now ≢ 1 → result ≡ Err Fault.Usage }
     ensures unshown { IfErr result (λ fault. IsJudged fault → W.contents out.new ≡ W.contents out.old) }
 
-    ensures ok { OnOk result ((mode : Mode) × IsMode words.now mode
+    ensures ok { OnOk result ((mode : RunMode) × IsMode words.now mode
         × ShowsRun mode (R.remaining reader.old) (W.contents out.old) (W.contents out.new)) }
-    ensures err { IfErr result (λ fault. (mode : Mode) → IsMode words.now mode →
+    ensures err { IfErr result (λ fault. (mode : RunMode) → IsMode words.now mode →
         FailsBy fault mode (R.remaining reader.old) (W.contents out.old) (W.contents out.new)) }
 {
     match mode_of(alloc, words) {
@@ -193,16 +193,16 @@ pub fn program<H: Threads + Wait + Copy + Send + 'static, R: Read, W: Write, E: 
     ensures several { length words.now ≢ 1 → result ≡ 2 }
     ensures unread { result ≡ 2 → reader.new ≡ reader.old }
 
-    ensures ran { result ≡ 0 → (mode : Mode) × IsMode words.now mode
+    ensures ran { result ≡ 0 → (mode : RunMode) × IsMode words.now mode
         × ShowsRun mode (R.remaining reader.old) (W.contents out.old) (W.contents out.new) }
-    ensures faulty { result ≡ 1 → (mode : Mode) × IsMode words.now mode
+    ensures faulty { result ≡ 1 → (mode : RunMode) × IsMode words.now mode
         × IfSome (R.remaining reader.old) (IsFaulty mode) }
     ensures nothing_shown { 0 < result → result < 4 → W.contents out.new ≡ W.contents out.old }
 
     // Nothing is told of a run that ended; and else the fault that there was.
     ensures silent { result ≡ 0 → err.new ≡ err.old }
     ensures told { 0 < result → (fault : Fault) × (status_of fault ≡ result)
-        × ((mode : Mode) → IsMode words.now mode
+        × ((mode : RunMode) → IsMode words.now mode
         → FailsBy fault mode (R.remaining reader.old) (W.contents out.old) (W.contents out.new))
         × AppendsSome (E.contents err.old) (E.contents err.new) (text_of fault) }
 {

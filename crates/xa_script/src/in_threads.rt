@@ -2,31 +2,31 @@
 ghost use Rattle.std.specs.Prelude.{◌≡◌, ◌++◌, List, [], length, All, IfOk, OnOk, IsErrOf, false};
 ghost use Rattle.std.specs.List.{flat_map, range_with_len};
 ghost use Rattle.xa_base.specs.Lists.{Pairwise};
-ghost use Rattle.script_grammar.specs.Contents.{threads_of, AreOfOne};
-ghost use Rattle.laws_transcript.specs.ToldOpenings.{Opening};
-ghost use Rattle.script_transcript.specs.declared.answer.Told.{Told};
-ghost use Rattle.xa_script.specs.ScriptThreads.{IsNew};
+ghost use Rattle.script_grammar.specs.Contents.{threads_of, NoneReopens};
+ghost use Rattle.laws_transcript.specs.ToldOpenings.{ToldOpening};
+ghost use Rattle.script_transcript.specs.declared.answer.TranscriptLine.{TranscriptLine};
+ghost use Rattle.xa_script.specs.ScriptThreads.{IsNewThread};
 ghost use Rattle.script_transcript.specs.Text.{lines_text};
-ghost use Rattle.script_command.specs.declared.mode.Mode.TheVariants as mode;
-ghost use Rattle.xa_script.specs.InThreads.{told_by};
+ghost use Rattle.script_command.specs.declared.mode.RunMode.TheVariants as mode;
+ghost use Rattle.xa_script.specs.InThreads.{lines_of_thread};
 ghost use Rattle.xa_script.specs.Outcome.{IsOutcome, Writes};
 
 use crate::outcome::show;
 use crate::plan::plan_of;
 use crate::script_thread::ScriptThread;
+use script_grammar::Script;
+use script_transcript::{LINE, RunFault, tell_ended};
 use std::alloc::{AllocError, Global};
 use std::io::Write;
 use std::sync::Wait;
 use std::thread::Threads;
 use xa_crew::{Attended, CrewFault, run_clients};
-use script_grammar::Script;
 use xa_switch::Settled;
-use script_transcript::{LINE, RunFault, tell_ended};
 use xa_worker::Pace;
 
 // The threads of the script by rising number, before they do anything.
 fn threads_of(alloc: Global, script: &Script) -> Result<Vec<ScriptThread>, AllocError>
-    ensures { IfOk result (λ v. Pairwise (IsNew script.now) (range_with_len 1 (threads_of script.now)) v.items) }
+    ensures { IfOk result (λ v. Pairwise (IsNewThread script.now) (range_with_len 1 (threads_of script.now)) v.items) }
 {
     let mut threads = Vec::with_capacity(alloc, script.threads() as usize)?;
     for before in 0..script.threads() {
@@ -38,7 +38,7 @@ fn threads_of(alloc: Global, script: &Script) -> Result<Vec<ScriptThread>, Alloc
 // Adds the lines that a thread tells. It fails where memory was refused to the thread.
 fn tell(attended: Attended<ScriptThread>, lines: &mut Vec<u8>) -> Result<(), AllocError>
     ensures done { OnOk result (attended.client.wants_memory ≡ false) }
-    ensures told { OnOk result (lines.new.items ≡ lines.old.items ++ lines_text (told_by attended)) }
+    ensures told { OnOk result (lines.new.items ≡ lines.old.items ++ lines_text (lines_of_thread attended)) }
 {
     let Attended {
         mut client,
@@ -55,7 +55,7 @@ fn tell(attended: Attended<ScriptThread>, lines: &mut Vec<u8>) -> Result<(), All
 fn lines_of(threads: Vec<Attended<ScriptThread>>, mut lines: Vec<u8>) -> Result<Vec<u8>, AllocError>
     requires { lines.items ≡ [] }
     ensures done { IfOk result (λ _. All (λ t. t.client.wants_memory ≡ false) threads.items) }
-    ensures lines { IfOk result (λ v. v.items ≡ lines_text (flat_map told_by threads.items)) }
+    ensures lines { IfOk result (λ v. v.items ≡ lines_text (flat_map lines_of_thread threads.items)) }
 {
     for attended in threads {
         tell(attended, &mut lines)?;
@@ -71,8 +71,9 @@ fn run<R: Threads + Wait + Copy + Send + 'static, P: Pace + Drop + Send + 'stati
     paces: Vec<P>,
 ) -> Result<(Vec<u8>, Settled), AllocError>
     requires paces { length paces.items ≡ 8 }
-    requires one { AreOfOne script.now.steps }
-    ensures { IfOk result (λ r. (answers : List Told) × (last : Opening) × (r.0.items ≡ lines_text answers)
+    requires one { NoneReopens script.now.steps }
+    ensures { IfOk result (λ r. (answers : List TranscriptLine) × (last : ToldOpening)
+        × (r.0.items ≡ lines_text answers)
         × IsOutcome mode.Threads script.now answers [] last × (last.settled ≡ r.1)) }
 {
     script.steps_are_of_it();
@@ -103,7 +104,7 @@ pub fn run_threads<
     P: Pace + Drop + Send + 'static,
 >(rt: &R, alloc: Global, script: &Script, writer: &mut W, paces: Vec<P>) -> Result<(), RunFault>
     requires paces { length paces.items ≡ 8 }
-    requires one { AreOfOne script.now.steps }
+    requires one { NoneReopens script.now.steps }
     ensures ok { OnOk result (Writes mode.Threads script.now (W.contents writer.old) (W.contents writer.new)) }
     ensures memory { IsErrOf result RunFault.NoMemory → W.contents writer.new ≡ W.contents writer.old }
 {

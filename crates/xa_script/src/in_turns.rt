@@ -4,15 +4,18 @@ ghost use Rattle.xa_base.specs.Lists.{IsUpTo};
 ghost use Rattle.xa_desk.specs.Kept.{AllKept};
 ghost use Rattle.script_grammar.specs.Steps.{ScriptStep};
 ghost use Rattle.script_grammar.specs.Contents.{Content};
-ghost use Rattle.laws_transcript.specs.ToldOpenings.{Beginning, Opening, Former, beginning};
-ghost use Rattle.script_command.specs.declared.mode.Mode.TheVariants as mode;
+ghost use Rattle.laws_transcript.specs.ToldOpenings.{Beginning, ToldOpening, Former, beginning};
+ghost use Rattle.script_command.specs.declared.mode.RunMode.TheVariants as mode;
 ghost use Rattle.xa_script.specs.InTurns.{stage_of, closing_of, HasCalled, HasEndedDesk, HasTurned, HaveEnded};
 ghost use Rattle.xa_desk.specs.Ended.{EndedView};
-ghost use Rattle.xa_script.specs.TurnsSoFar.{IsOpen, Goes, IsClosed};
-ghost use Rattle.xa_script.specs.Outcome.{Follows, IsOutcome, Writes};
+ghost use Rattle.xa_script.specs.TurnsSoFar.{IsOpen, Goes, IsClosedOpening};
+ghost use Rattle.xa_script.specs.Outcome.{FollowsOpening, IsOutcome, Writes};
 
 use crate::outcome::show;
 use crate::plan::{again_of, plan_of};
+use script_grammar::{Gtrid, Name, Script, Step, Task};
+use script_session::{Session, carry_out, sessions_again, sessions_of};
+use script_transcript::{RunFault, Transcript, TranscriptLine, tell_ended};
 use std::alloc::{AllocError, Global};
 use std::io::Write;
 use std::sync::Wait;
@@ -20,12 +23,9 @@ use xa_base::MOST_HANDLES;
 use xa_crew::{Turns, end_desk, settle_all};
 use xa_desk::EndedDesk;
 use xa_desk::laws::desks_go_on;
-use script_grammar::{Gtrid, Name, Script, Step, Task};
-use xa_log::LosingLog;
-use script_session::{Session, carry_out, sessions_again, sessions_of};
+use xa_log::{MemoryLog, TrialLog};
 use xa_switch::laws::opened_desks_keep_what_is_outstanding;
 use xa_switch::{OpenFault, Settled, open_switch, reopen};
-use script_transcript::{RunFault, Told, Transcript, tell_ended};
 
 // What runs an opening of a script: its number, its threads of control, and the workers, which take turns.
 struct Runner {
@@ -49,7 +49,7 @@ impl Drop for Runner {
 #[derive(Drop)]
 struct Closed {
     opening: u64,
-    logs: Vec<LosingLog>,
+    logs: Vec<TrialLog<MemoryLog>>,
     settled: Settled,
 }
 
@@ -80,7 +80,7 @@ impl Runner {
         rt: &R,
         alloc: Global,
         task: &Task<Name, Gtrid>,
-    ) -> Result<Told, AllocError>
+    ) -> Result<TranscriptLine, AllocError>
         requires { IsUpTo (length self.old.sessions.items) task.now.thread }
         ensures calls { IfOk result (HasCalled task.now (stage_of self.old.sessions.items self.old.turns)
             (stage_of self.new.sessions.items self.new.turns)) }
@@ -88,7 +88,7 @@ impl Runner {
     {
         let Session { desk, log, scan } = &mut self.sessions[task.thread as usize - 1];
         let answer = carry_out(rt, alloc, desk, log, scan, &task.action, &mut self.turns)?;
-        Ok(Told::Answered {
+        Ok(TranscriptLine::Answered {
             line: task.line,
             thread: task.thread,
             answer,
@@ -96,13 +96,13 @@ impl Runner {
     }
 
     // A manager's worker takes a turn, which is told.
-    fn turn<R: Wait>(&mut self, rt: &R, line: u32, manager: u32) -> Told
+    fn turn<R: Wait>(&mut self, rt: &R, line: u32, manager: u32) -> TranscriptLine
         requires { IsUpTo (length self.old.turns) manager }
         ensures turns { HasTurned line manager (stage_of self.old.sessions.items self.old.turns)
             (stage_of self.new.sessions.items self.new.turns) result }
         ensures number { self.new.opening ≡ self.old.opening }
     {
-        Told::Turned {
+        TranscriptLine::Turned {
             line,
             step: self.turns.turn(rt, manager),
         }
@@ -115,13 +115,13 @@ impl Runner {
         alloc: Global,
         transcript: &mut Transcript,
     ) -> Result<Closed, AllocError>
-        requires { (s : Content) × (b : Beginning) × (steps : List ScriptStep) × (answers : List Told)
+        requires { (s : Content) × (b : Beginning) × (steps : List ScriptStep) × (answers : List TranscriptLine)
             × Goes s b steps answers self.sessions.items self.turns }
         ensures number { IfOk result (λ c. c.opening ≡ self.opening) }
         ensures closed { IfOk result (λ c. (s : Content) (b : Beginning) (steps : List ScriptStep)
-            (answers : List Told) → Goes s b steps answers self.sessions.items self.turns
-            → (more : List Told) × (transcript.new ≡ transcript.old ++ more)
-            × IsClosed s b (record {
+            (answers : List TranscriptLine) → Goes s b steps answers self.sessions.items self.turns
+            → (more : List TranscriptLine) × (transcript.new ≡ transcript.old ++ more)
+            × IsClosedOpening s b (record {
               steps = steps;
               answers = answers ++ more;
               settled = c.settled;
@@ -149,12 +149,12 @@ impl Runner {
 impl Closed {
     // It is opened again, with the next number.
     fn reopen<R: Wait>(self, rt: &R, alloc: Global, script: &Script) -> Result<Runner, AllocError>
-        requires closed { (b : Beginning) × (o : Opening) × IsClosed script.now b o self.logs.items
+        requires closed { (b : Beginning) × (o : ToldOpening) × IsClosedOpening script.now b o self.logs.items
             × (o.settled ≡ self.settled) × (self.opening ≡ b.opening) }
         requires few { self.opening < 18446744073709551615 }
-        ensures opened { IfOk result (λ r. (b : Beginning) (o : Opening) (line : ℕ)
-            → IsClosed script.now b o self.logs.items → o.settled ≡ self.settled → self.opening ≡ b.opening
-            → (next : Beginning) × Follows mode.Turns script.now (record { opening = o; line = line }) b next
+        ensures opened { IfOk result (λ r. (b : Beginning) (o : ToldOpening) (line : ℕ)
+            → IsClosedOpening script.now b o self.logs.items → o.settled ≡ self.settled → self.opening ≡ b.opening
+            → (next : Beginning) × FollowsOpening mode.Turns script.now (record { opening = o; line = line }) b next
             × (r.opening ≡ next.opening) × IsOpen script.now next r.sessions.items r.turns) }
         ensures number { IfOk result (λ r. r.opening ≡ self.opening + 1) }
     {
@@ -188,7 +188,7 @@ fn end_session<R: Wait>(
     session: Session,
     turns: &mut Turns,
     transcript: &mut Transcript,
-) -> Result<(EndedDesk, LosingLog), AllocError>
+) -> Result<(EndedDesk, TrialLog<MemoryLog>), AllocError>
     requires { AllKept session.desk }
     ensures ended { IfOk result (λ r. (before : List EndedView) → HasEndedDesk session
         (closing_of before turns.old transcript.old) (closing_of (before ++ r.0 ∷ []) turns.new transcript.new)) }
@@ -209,7 +209,7 @@ fn end_desks<R: Wait>(
     sessions: Vec<Session>,
     turns: &mut Turns,
     transcript: &mut Transcript,
-) -> Result<(Vec<EndedDesk>, Vec<LosingLog>), AllocError>
+) -> Result<(Vec<EndedDesk>, Vec<TrialLog<MemoryLog>>), AllocError>
     requires { All (λ s. AllKept s.desk) sessions.items }
     ensures ended { IfOk result (λ r. HaveEnded (closing_of [] turns.old transcript.old) sessions.items
         (closing_of r.0.items turns.new transcript.new)) }
@@ -227,7 +227,7 @@ fn end_desks<R: Wait>(
 
 // Runs a script in turns, and settles what the threads and the managers of each opening have come to: the last one's.
 fn run<R: Wait>(rt: &R, alloc: Global, script: &Script) -> Result<(Transcript, Settled), AllocError>
-    ensures { IfOk result (λ r. (before : List Former) × (last : Opening)
+    ensures { IfOk result (λ r. (before : List Former) × (last : ToldOpening)
         × IsOutcome mode.Turns script.now r.0 before last × (last.settled ≡ r.1)) }
 {
     let mut runner = Runner::open(rt, alloc, script)?;
@@ -239,7 +239,7 @@ fn run<R: Wait>(rt: &R, alloc: Global, script: &Script) -> Result<(Transcript, S
             Step::Turn { line, manager } => transcript.tell(runner.turn(rt, line, manager))?,
             Step::Reopen { line } => {
                 let closed = runner.close(rt, alloc, &mut transcript)?;
-                transcript.tell(Told::Reopened { line })?;
+                transcript.tell(TranscriptLine::Reopened { line })?;
                 runner = closed.reopen(rt, alloc, script)?;
             }
         }

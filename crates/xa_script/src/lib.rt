@@ -22,4 +22,4 @@ pub use script_grammar::{
     Action, Called, CommitAll, Declared, Gtrid, ManagerCall, Name, Reason, Script, ScriptFault,
     Step, Task, read_script,
 };
-pub use script_transcript::{Answer, RunFault, Told};
+pub use script_transcript::{Answer, RunFault, TranscriptLine};

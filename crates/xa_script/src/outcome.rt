@@ -1,16 +1,16 @@
 //! What a run shows once it is settled.
 ghost use Rattle.std.specs.Prelude.{◌≡◌, List, OnOk, IsErrOf};
-ghost use Rattle.script_transcript.specs.declared.answer.Told.{Told};
+ghost use Rattle.script_transcript.specs.declared.answer.TranscriptLine.{TranscriptLine};
 ghost use Rattle.script_transcript.specs.Text.{lines_text};
-ghost use Rattle.laws_transcript.specs.ToldOpenings.{Former, Opening};
-ghost use Rattle.script_command.specs.declared.mode.Mode.{Mode};
-ghost use Rattle.xa_script.specs.Outcome.{IsRun, IsOutcome, Writes};
+ghost use Rattle.laws_transcript.specs.ToldOpenings.{Former, ToldOpening};
+ghost use Rattle.script_command.specs.declared.mode.RunMode.{RunMode};
+ghost use Rattle.xa_script.specs.Outcome.{IsScriptRun, IsOutcome, Writes};
 
+use script_grammar::Script;
+use script_transcript::{RunFault, values_of, write_transcript};
 use std::alloc::Global;
 use std::io::Write;
-use script_grammar::Script;
 use xa_switch::Settled;
-use script_transcript::{RunFault, values_of, write_transcript};
 
 /// Writes the transcript of a run whose answers have these lines, and that was settled so at last.
 ///
@@ -22,8 +22,9 @@ pub(crate) fn show<W: Write>(
     settled: &Settled,
     writer: &mut W,
 ) -> Result<(), RunFault>
-    requires { (answers : List Told) × IsRun script.now answers settled.now }
-    ensures ok { OnOk result ((mode : Mode) (answers : List Told) (before : List Former) (last : Opening)
+    requires { (answers : List TranscriptLine) × IsScriptRun script.now answers settled.now }
+    ensures ok { OnOk result ((mode : RunMode) (answers : List TranscriptLine) (before : List Former)
+        (last : ToldOpening)
         → lines.now ≡ lines_text answers → IsOutcome mode script.now answers before last
         → last.settled ≡ settled.now → Writes mode script.now (W.contents writer.old) (W.contents writer.new)) }
     ensures memory { IsErrOf result RunFault.NoMemory → W.contents writer.new ≡ W.contents writer.old }

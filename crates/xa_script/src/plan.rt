@@ -3,12 +3,12 @@ ghost use Rattle.std.specs.Prelude.{◌≡◌, ◌≤◌, All, IfOk, length, map
 ghost use Rattle.std.specs.List.{range_with_len};
 ghost use Rattle.xa_base.specs.Lists.{IsUpTo};
 ghost use Rattle.xa_switch.specs.Plans.{IsSoundManager, IsSound};
-ghost use Rattle.script_grammar.specs.Contents.{accounts_of, managers_of};
+ghost use Rattle.script_grammar.specs.Contents.{declared_accounts, managers_of};
 ghost use Rattle.laws_transcript.specs.Planning.{plan_says, script_says, IsPlanOf, AreNumbersOf};
 
+use script_grammar::{Declared, Script};
 use std::alloc::{AllocError, Global};
 use xa_base::MOST_MANAGERS;
-use script_grammar::{Declared, Script};
 use xa_switch::{Again, ManagerPlan, Plan};
 use xa_words::Key;
 
@@ -21,7 +21,7 @@ fn accounts_of(
     manager: u32,
     keys: &[Declared],
 ) -> Result<Vec<(Key, u64)>, AllocError>
-    ensures { IfOk result (λ v. v.items ≡ accounts_of manager keys.now) }
+    ensures { IfOk result (λ v. v.items ≡ declared_accounts manager keys.now) }
 {
     keys.iter()
         .filter(|declared| declared.manager == manager)

@@ -5,26 +5,26 @@ ghost use Rattle.xa_desk.specs.GoingOn.{GoesOn};
 ghost use Rattle.xa_desk.specs.Kept.{AllKept};
 ghost use Rattle.xa_base.specs.Lists.{Chain};
 ghost use Rattle.script_session.specs.Sessions.{log_of, session_of, HasDone};
-ghost use Rattle.xa_script.specs.ScriptThreads.{IsNew};
+ghost use Rattle.xa_script.specs.ScriptThreads.{IsNewThread};
 
+use script_grammar::{Script, Tasks};
+use script_session::{carry_out, log_of};
+use script_transcript::{Transcript, TranscriptLine};
 use std::alloc::{AllocError, Global};
 use std::sync::Wait;
 use xa_crew::Client;
 use xa_crew::laws::idles_go_on;
 use xa_desk::laws::desks_go_on;
 use xa_desk::{Desk, Idle};
-use script_grammar::{Script, Tasks};
-use xa_log::LosingLog;
+use xa_log::{MemoryLog, TrialLog};
 use xa_scan::Scan;
-use script_session::{carry_out, log_of};
-use script_transcript::{Told, Transcript};
 
 /// A thread of a script: its own tasks, its decision log, and what it told so far.
 pub(crate) struct ScriptThread {
     /// Its number, from 1.
     pub(crate) thread: u32,
     alloc: Global,
-    log: LosingLog,
+    log: TrialLog<MemoryLog>,
     scan: Scan,
     tasks: Tasks,
     /// What its tasks answered, in their order.
@@ -53,7 +53,7 @@ fn carry_out_all<R: Wait, I: Idle>(
     rt: &R,
     alloc: Global,
     desk: &mut Desk,
-    log: &mut LosingLog,
+    log: &mut TrialLog<MemoryLog>,
     scan: &mut Scan,
     tasks: &Tasks,
     told: &mut Transcript,
@@ -70,7 +70,7 @@ fn carry_out_all<R: Wait, I: Idle>(
     for place in 0..tasks.len() {
         let task = tasks.get(place);
         let answer = carry_out(rt, alloc, desk, log, scan, &task.action, idle)?;
-        told.tell(Told::Answered {
+        told.tell(TranscriptLine::Answered {
             line: task.line,
             thread: task.thread,
             answer,
@@ -86,7 +86,7 @@ impl ScriptThread {
         script: &Script,
         thread: u32,
     ) -> Result<ScriptThread, AllocError>
-        ensures { IfOk result (IsNew script.now thread) }
+        ensures { IfOk result (IsNewThread script.now thread) }
     {
         let tasks = script.tasks_of(alloc, thread)?;
         let told = Transcript::with_capacity(alloc, tasks.len())?;
@@ -103,9 +103,9 @@ impl ScriptThread {
 }
 
 impl Client for ScriptThread {
-    ghost use Rattle.xa_script.specs.ScriptThreads.{Works};
+    ghost use Rattle.xa_script.specs.ScriptThreads.{ThreadWorks};
 
-    ghost works = { Works };
+    ghost works = { ThreadWorks };
 
     fn work<R: Wait, I: Idle>(&mut self, rt: &R, desk: &mut Desk, idle: &mut I) {
         let done = carry_out_all(

@@ -1,6 +1,6 @@
 -- What reading the rows of a table finds.
-use Rattle.std.proofs.Common.{◌≡◌, ℕ, suc, ◌+◌, ◌<◌, ◌≤◌, pos, List, [], ◌∷◌, ◌++◌, length, take, drop, None, Some, refl, sym, ap, ◌∙◌, arith, rules, inl, inr}
-use Rattle.std.proofs.Common.{◌⊎◌}
+use Rattle.std.proofs.Common.{◌≡◌, ℕ, suc, ◌+◌, ◌<◌, ◌≤◌, pos, List, [], ◌∷◌, ◌++◌, length, take, drop, None, Some}
+use Rattle.std.proofs.Common.{refl, sym, ap, ◌∙◌, arith, rules, inl, inr, ◌⊎◌}
 use Rattle.std.proofs.lemmas.List.{drop-append-le, length-take-le, take_more}
 use Rattle.sqlite_value.specs.declared.value.Value.{Value}
 use Rattle.sqlite_value.specs.declared.value.Value.TheVariants.{Int, Null}
@@ -9,7 +9,8 @@ use Rattle.sqlite_value.specs.declared.keys.Order.{Order}
 use Rattle.sqlite_trees.specs.Tree.{from_key}
 use Rattle.sqlite_trees.specs.View.{View}
 use Rattle.sqlite_trees.specs.declared.error.StoreError.TheVariants.{OutOfMemory}
-use Rattle.xa_slots.specs.{EndsTaken, Failed, HasNoSlots, HasReadCause, IsSlotRow, NotSlots, ReadFault, Slot, rows_from}
+use Rattle.xa_slots.specs.{EndsTaken, Failed, HasNoSlots, HasReadCause, IsSlotRow, NotSlots, TableReadFault, Slot}
+use Rattle.xa_slots.specs.{rows_from}
 
 -- ---- slots that are added
 
@@ -73,9 +74,11 @@ later n first count row is = record {
 
 none_there : (row : Row) (rows before : List Row) → [] ≡ before ++ row ∷ rows → ⊥
 none_there row rows [] e = let z : 0 ≡ suc (length rows) = ap length e in omega (arith, z)
-none_there row rows (other ∷ before) e = let z : 0 ≡ suc (length (before ++ row ∷ rows)) = ap length e in omega (arith, z)
+none_there row rows (other ∷ before) e =
+    let z : 0 ≡ suc (length (before ++ row ∷ rows)) = ap length e in omega (arith, z)
 
-first_from : (n : ℕ) (slots : List Slot) (row : Row) (rest : List Row) → rows_from n slots ≡ row ∷ rest → IsFrom n 0 (length slots) row
+first_from : (n : ℕ) (slots : List Slot) (row : Row) (rest : List Row) → rows_from n slots ≡ row ∷ rest
+    → IsFrom n 0 (length slots) row
 first_from n [] row rest e = absurd (none_there row rest [] e)
 first_from n (None ∷ slots) row rest e =
     let is = later n 0 (length slots) row (first_from (suc n) slots row rest e) in
@@ -110,9 +113,11 @@ next_slot n (None ∷ next ∷ found) [] row rest ends e = absurd (none_there ro
 next_slot n (None ∷ next ∷ found) (None ∷ slots) row rest ends e =
     later n _ _ row (next_slot (suc n) (next ∷ found) slots row rest ends e)
 next_slot n (None ∷ next ∷ found) (Some own ∷ slots) row rest ends e =
-    let above : suc n ≤ n = first_above (suc n) next found (Int (pos n) ∷ own) (rows_from (suc n) slots) (row ∷ rest) ends e in
+    let above : suc n ≤ n =
+    first_above (suc n) next found (Int (pos n) ∷ own) (rows_from (suc n) slots) (row ∷ rest) ends e in
     absurd (omega (arith, above))
-next_slot n (Some had ∷ found) [] row rest ends e = absurd (none_there row rest ((Int (pos n) ∷ had) ∷ rows_from (suc n) found) e)
+next_slot n (Some had ∷ found) [] row rest ends e =
+    absurd (none_there row rest ((Int (pos n) ∷ had) ∷ rows_from (suc n) found) e)
 next_slot n (Some had ∷ found) (None ∷ slots) row rest ends e =
     let is = first_from (suc n) slots (Int (pos n) ∷ had) (rows_from (suc n) found ++ row ∷ rest) e in
     let same : n ≡ suc n + is.slot = ap rowid_in is.row_is in
@@ -147,7 +152,7 @@ from_first o [] = refl
 from_first o (row ∷ rows) = refl
 
 -- a fault that no call of the store has made
-pub own_cause : (old : View) (P : Type 0) (fault : ReadFault) → (fault ≡ Failed OutOfMemory) ⊎ (fault ≡ NotSlots)
+pub own_cause : (old : View) (P : Type 0) (fault : TableReadFault) → (fault ≡ Failed OutOfMemory) ⊎ (fault ≡ NotSlots)
     → HasReadCause old P fault
 own_cause old P fault (inl is) = rw is tt
 own_cause old P fault (inr is) = rw is tt

@@ -2,8 +2,8 @@
 use Rattle.std.specs.Prelude.{◌≡◌, ℕ, ◌<◌, ◌≤◌, List, [], ◌∷◌, length, IsSome, ⊤}
 use Rattle.sqlite_value.specs.Order.{Row}
 use Rattle.sqlite_trees.specs.View.{View, HasCause, IsClean}
-use Rattle.xa_slots.specs.declared.fault.ReadFault.{ReadFault}
-use Rattle.xa_slots.specs.declared.fault.ReadFault.TheVariants.{Failed, NotSlots}
+use Rattle.xa_slots.specs.declared.fault.TableReadFault.{TableReadFault}
+use Rattle.xa_slots.specs.declared.fault.TableReadFault.TheVariants.{Failed, NotSlots}
 use Rattle.xa_slots.specs.Slots.{Slot, row_of, rows_from}
 
 -- the row is that of a slot from this one on, of so many
@@ -29,6 +29,6 @@ abbrev pub OnlyReads : View → View → Type 0
 OnlyReads old new = IsClean new → new ≡ record old { cursors = new.cursors }
 
 -- why a table isn't read, where `fault` says that the disk failed during it
-abbrev pub HasReadCause : View → Type 0 → ReadFault → Type 0
+abbrev pub HasReadCause : View → Type 0 → TableReadFault → Type 0
 HasReadCause old fault (Failed error) = HasCause old fault ⊥ error
 HasReadCause old fault NotSlots = ⊤

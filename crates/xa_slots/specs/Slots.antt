@@ -12,8 +12,8 @@ abbrev pub Slot : Type 0
 Slot = Option Row
 
 -- the slots of each table, by its number
-abbrev pub Tables : Type 0
-Tables = ℕ → List Slot
+abbrev pub SlotsOfTables : Type 0
+SlotsOfTables = ℕ → List Slot
 
 -- the row of slot k with these values
 abbrev pub row_of : ℕ → Row → Row
@@ -26,21 +26,21 @@ rows_from n (None ∷ slots) = rows_from (suc n) slots
 rows_from n (Some cells ∷ slots) = (Int (pos n) ∷ cells) ∷ rows_from (suc n) slots
 
 -- the first trees, so many, have the rows of these slots and no others
-abbrev pub HasSlots : ℕ → Tables → Trees → Type 0
+abbrev pub HasSlots : ℕ → SlotsOfTables → Trees → Type 0
 HasSlots many all trees = (t : ℕ) → t < many → trees t ≡ rows_from 1 (all t)
 
 -- table t has this in its slot k
-abbrev pub with_slot : Tables → ℕ → ℕ → Slot → Tables
+abbrev pub with_slot : SlotsOfTables → ℕ → ℕ → Slot → SlotsOfTables
 with_slot all t k slot u = if u == t then slice_set (all t) k slot else all u
 
 -- the first trees, so many, are tables
-abbrev pub IsLaidOut : ℕ → View → Type 0
-IsLaidOut many v = (t : ℕ) → t < many → v.shape t ≡ Table
+abbrev pub HasTables : ℕ → View → Type 0
+HasTables many v = (t : ℕ) → t < many → v.shape t ≡ Table
 
 -- the slots are these, as the transaction sees them, if the disk has returned what was written
-abbrev pub Knows : ℕ → View → Tables → Type 0
+abbrev pub Knows : ℕ → View → SlotsOfTables → Type 0
 Knows many v all = IsClean v → (v.is_broken ≡ false) × HasSlots many all v.trees
 
 -- they are those that an open finds, whenever a crash comes from now on
-abbrev pub IsCommitted : ℕ → View → (Trees → Type 0) → Tables → Type 0
+abbrev pub IsCommitted : ℕ → View → (Trees → Type 0) → SlotsOfTables → Type 0
 IsCommitted many v recovers all = IsClean v → (db : Trees) → recovers db → HasSlots many all db

@@ -2,11 +2,12 @@
 //!
 //! A slot is set or cleared in the transaction that is always open, and `commit` makes all that was written since the
 //! last one durable at once: a crash leaves the slots as they were at the last commit, or as they are now. `read` gives
-//! all slots of a table, as an opening needs them, and refuses a table that has any other row.
+//! the slots of a table up to the last that is taken, as an opening needs them, and refuses a table that has any other
+//! row.
 #![tactic(auto)]
 
 mod fault;
 mod slots;
 
-pub use fault::ReadFault;
+pub use fault::TableReadFault;
 pub use slots::SlotTables;

@@ -11,9 +11,9 @@ ghost use Rattle.sqlite_trees.specs.View.{Commits, HasCause, IsClean, IsFailure,
 ghost use Rattle.sqlite_trees.specs.View.{KeepsSchema, OnlyCommits, SetsTree, with_cursor};
 ghost use Rattle.sqlite_trees.specs.declared.error.StoreError.TheVariants.{OutOfMemory};
 ghost use Rattle.xa_slots.specs.{EndsTaken, Failed, HasNoSlots, HasReadCause, HasSlots, IsCommitted, IsSlotRow};
-ghost use Rattle.xa_slots.specs.{Knows, NotSlots, OnlyReads, Tables, row_of, rows_from, with_slot};
+ghost use Rattle.xa_slots.specs.{Knows, NotSlots, OnlyReads, SlotsOfTables, row_of, rows_from, with_slot};
 
-use crate::fault::ReadFault;
+use crate::fault::TableReadFault;
 use sqlite_trees::error::StoreError;
 use sqlite_trees::store::{Direction, Shape, Store};
 use sqlite_value::row::Row;
@@ -95,7 +95,12 @@ fn fill(slots: &mut Vec<Option<Row>>, count: u32) -> Result<(), AllocError>
 
 // Puts the slot of the row at its place after these, of so many.
 #[tactic(auto, using(crate::proofs::Found::rows_some, crate::proofs::Found::ends_taken))]
-fn add(alloc: Global, slots: &mut Vec<Option<Row>>, row: &Row, count: u32) -> Result<(), ReadFault>
+fn add(
+    alloc: Global,
+    slots: &mut Vec<Option<Row>>,
+    row: &Row,
+    count: u32,
+) -> Result<(), TableReadFault>
     requires { length slots.old.items ≤ count }
     ensures rows { OnOk result (rows_from 1 slots.new.items ≡ rows_from 1 slots.old.items ++ row.now ∷ []) }
     ensures more { OnOk result (length slots.old.items < length slots.new.items) }
@@ -105,7 +110,7 @@ fn add(alloc: Global, slots: &mut Vec<Option<Row>>, row: &Row, count: u32) -> Re
     ensures fault { IfErr result (λ fault. (fault ≡ Failed OutOfMemory) ⊎ (fault ≡ NotSlots)) }
 {
     let Some(slot) = slot_of(row, slots.len() as u32, count) else {
-        return Err(ReadFault::NotSlots);
+        return Err(TableReadFault::NotSlots);
     };
     fill(slots, slot)?;
     slots.push(Some(cells_of(alloc, row)?))?;
@@ -135,7 +140,7 @@ impl<S: Store> SlotTables<S> {
     /// transaction is broken, and can only be rolled back.
     pub fn set(&mut self, table: u32, slot: u32, cells: &[ValueRef<'_>]) -> Result<(), StoreError>
         requires table { IsClean (S.view self.old.trees) → (S.view self.old.trees).shape table ≡ Shape.Table }
-        ensures set { (many : ℕ) (all : Tables) → Knows many (S.view self.old.trees) all → table < many
+        ensures set { (many : ℕ) (all : SlotsOfTables) → Knows many (S.view self.old.trees) all → table < many
             → slot < length (all table)
             → OnOk result (Knows many (S.view self.new.trees)
             (with_slot all table slot (Some (map owned cells.now)))) }
@@ -159,7 +164,7 @@ impl<S: Store> SlotTables<S> {
     /// only be rolled back.
     pub fn clear(&mut self, table: u32, slot: u32) -> Result<(), StoreError>
         requires table { IsClean (S.view self.old.trees) → (S.view self.old.trees).shape table ≡ Shape.Table }
-        ensures cleared { (many : ℕ) (all : Tables) → Knows many (S.view self.old.trees) all → table < many
+        ensures cleared { (many : ℕ) (all : SlotsOfTables) → Knows many (S.view self.old.trees) all → table < many
             → slot < length (all table)
             → OnOk result (Knows many (S.view self.new.trees) (with_slot all table slot None)) }
 
@@ -179,7 +184,7 @@ impl<S: Store> SlotTables<S> {
     /// Makes all that was written since the last commit durable, at once. A crash in the middle is a disk that fails
     /// from some call on, after which this answers an error: it leaves the slots as they were, or as they are.
     pub fn commit(&mut self) -> Result<(), StoreError>
-        ensures committed { (many : ℕ) (all : Tables) → Knows many (S.view self.old.trees) all
+        ensures committed { (many : ℕ) (all : SlotsOfTables) → Knows many (S.view self.old.trees) all
             → OnOk result (Knows many (S.view self.new.trees) all
             × IsCommitted many (S.view self.new.trees) (S.recovers self.new.trees) all) }
         ensures only { OnOk result (IsClean (S.view self.new.trees)
@@ -188,7 +193,7 @@ impl<S: Store> SlotTables<S> {
         ensures err { OnErr result (IsRolledBack (S.view self.old.trees) (S.view self.new.trees)) }
         ensures cause { IsClean (S.view self.new.trees) → IfErr result (HasCause (S.view self.old.trees)
             (MoreFaults (S.faults self.old.trees) (S.faults self.new.trees)) ⊥) }
-        ensures crash { (many : ℕ) (all : Tables) → Knows many (S.view self.old.trees) all
+        ensures crash { (many : ℕ) (all : SlotsOfTables) → Knows many (S.view self.old.trees) all
             → IsClean (S.view self.new.trees) → (db : Trees) → S.recovers self.new.trees db
             → HasSlots many all db ⊎ S.recovers self.old.trees db }
         ensures clean { IsClean (S.view self.new.trees) → IsClean (S.view self.old.trees) }
@@ -215,16 +220,17 @@ impl<S: Store> SlotTables<S> {
         Ok(())
     }
 
-    /// All slots of a table that has so many. A table with a row that is none of them is `NotSlots`: one whose rowid
-    /// is below 1, or above the count.
+    /// The slots of a table that has so many, up to the last that is taken: those after it have nothing. A table with a
+    /// row that is none of them is `NotSlots`: one whose rowid is below 1, or above the count.
     pub fn read(
         &mut self,
         alloc: Global,
         table: u32,
         count: u32,
-    ) -> Result<Vec<Option<Row>>, ReadFault>
+    ) -> Result<Vec<Option<Row>>, TableReadFault>
         requires table { IsClean (S.view self.old.trees) → (S.view self.old.trees).shape table ≡ Shape.Table }
-        ensures count { IfOk result (λ slots. length slots.items ≡ count) }
+        ensures few { IfOk result (λ slots. length slots.items ≤ count) }
+        ensures last { IfOk result (λ slots. EndsTaken slots.items) }
         ensures rows { IfOk result (λ slots. IsClean (S.view self.new.trees)
             → (S.view self.old.trees).trees table ≡ rows_from 1 slots.items) }
         ensures sound { OnOk result (IsClean (S.view self.new.trees) → (S.view self.old.trees).is_broken ≡ false) }
@@ -240,14 +246,13 @@ impl<S: Store> SlotTables<S> {
         while self.trees.next(CURSOR, &mut self.row)? {
             add(alloc, &mut slots, &self.row, count)?;
         }
-        fill(&mut slots, count)?;
         Ok(slots)
     }
 
     /// Where nothing was written since the last commit, as in a store that was just opened, an open finds these slots
     /// whenever a crash comes. It does nothing.
     pub fn are_committed(&self)
-        ensures { (many : ℕ) (all : Tables) → IsTrue (S.view self.now.trees).is_open
+        ensures { (many : ℕ) (all : SlotsOfTables) → IsTrue (S.view self.now.trees).is_open
             → (S.view self.now.trees).trees ≡ (S.view self.now.trees).committed
             → HasSlots many all (S.view self.now.trees).trees
             → IsCommitted many (S.view self.now.trees) (S.recovers self.now.trees) all }

@@ -27,8 +27,8 @@ pub record StoreView : Type 0 where
   pub is_failed : Bool
 
 -- It knows the tables that what it was told of has made. One that has failed may be told of any: it settles none.
-abbrev pub Knows : StoreView → Tables → Type 0
-Knows s T = s.is_failed ≡ false → T ≡ tables_after s.told s.settled
+abbrev pub KnowsTables : StoreView → Tables → Type 0
+KnowsTables s T = s.is_failed ≡ false → T ≡ tables_after s.told s.settled
 
 -- a crash leaves what a reopening keeps of the tables that are settled
 abbrev pub MayLeave : StoreView → Tables → Type 0
@@ -57,12 +57,12 @@ abbrev pub fits : StoreView → Request → Bool
 fits s r = nat_lt (length s.told) s.room && (nat_le 1 r.thread && nat_le r.thread s.threads)
 
 -- nothing is settled any more
-abbrev pub failed : StoreView → StoreView
-failed s = record s { is_failed = true }
+abbrev pub store_failed : StoreView → StoreView
+store_failed s = record s { is_failed = true }
 
 -- a request that fits is kept, and at another one the store fails
 abbrev pub after_tell : Request → StoreView → StoreView
-after_tell r s = if fits s r then record s { told = s.told ++ r ∷ [] } else failed s
+after_tell r s = if fits s r then record s { told = s.told ++ r ∷ [] } else store_failed s
 
 -- it hasn't failed, and its manager has room for all that it was told of
 abbrev pub can_write : StoreView → Bool
@@ -90,8 +90,8 @@ settles s = can_write s && not (is_due s.failing)
 -- store is to leave then. Where it doesn't succeed, the store has failed.
 abbrev pub after_settle : StoreView → StoreView
 after_settle s =
-    if not (can_write s) then failed s
-    else if is_due s.failing then failed (if s.keeps then written s else s)
+    if not (can_write s) then store_failed s
+    else if is_due s.failing then store_failed (if s.keeps then written s else s)
     else written (counted_down s)
 
 -- its twin is reopened, for so many threads and requests, and what isn't settled is gone

@@ -9,15 +9,15 @@ ghost use Rattle.xa_tables.specs.Next.{next};
 ghost use Rattle.xa_tables.specs.Histories.{tables_after};
 ghost use Rattle.xa_tables.specs.Openings.{reopened};
 ghost use Rattle.xa_store.specs.Stores.{AreDurable};
-ghost use Rattle.xa_store_memory.specs.Memory.{Knows, MayLeave, after_settle, after_tell, can_write};
-ghost use Rattle.xa_store_memory.specs.Memory.{counted_down, failed, reopened_for};
+ghost use Rattle.xa_store_memory.specs.Memory.{KnowsTables, MayLeave, after_settle, after_tell, can_write};
+ghost use Rattle.xa_store_memory.specs.Memory.{counted_down, store_failed, reopened_for};
 ghost use Rattle.xa_store_memory.specs.Memory.{fits, is_due, owes, settles, store_of, written};
 
+use laws_tables::a_second_reopening_changes_nothing;
 use std::alloc::{AllocError, Global};
 use std::marker::Model;
 use xa_base::{MOST_JOURNALED, MOST_THREADS};
 use xa_store::{Store, StoreFault};
-use laws_tables::a_second_reopening_changes_nothing;
 use xa_tables::Manager;
 use xa_words::{Code, Op, Request, RmOp, Xid};
 
@@ -103,7 +103,7 @@ impl MemoryStore {
     ) -> Result<MemoryStore, AllocError>
         requires { twin.threads ≡ threads }
         ensures new { IfOk result (λ s. s ≡ store_of twin room) }
-        ensures knows { IfOk result (λ s. Knows s twin.tables) }
+        ensures knows { IfOk result (λ s. KnowsTables s twin.tables) }
         ensures durable { IfOk result (λ s. AreDurable (MayLeave s) twin.tables) }
     {
         let told = Vec::with_capacity(alloc, room as usize)?;
@@ -173,7 +173,7 @@ impl MemoryStore {
     }
 
     fn fail(&mut self)
-        ensures { self.new ≡ failed self.old }
+        ensures { self.new ≡ store_failed self.old }
     {
         self.is_failed = true;
     }
@@ -198,7 +198,7 @@ impl MemoryStore {
 }
 
 impl Store for MemoryStore {
-    ghost knows = { Knows };
+    ghost knows = { KnowsTables };
 
     ghost may_leave = { MayLeave };
 
@@ -215,9 +215,9 @@ impl Store for MemoryStore {
     }
 
     fn tell(&mut self, request: &Request, _code: Code)
-        ensures told { (T : Tables) → AreAssociationsLive T → Knows self.old T
+        ensures told { (T : Tables) → AreAssociationsLive T → KnowsTables self.old T
             → _code ≡ (next request.now.thread request.now.op T).1
-            → Knows self.new (next request.now.thread request.now.op T).0 }
+            → KnowsTables self.new (next request.now.thread request.now.op T).0 }
         ensures crash { (K : Tables) → MayLeave self.new K → MayLeave self.old K }
         ensures after { self.new ≡ after_tell request.now self.old }
     {
@@ -229,10 +229,11 @@ impl Store for MemoryStore {
     }
 
     fn settle(&mut self, _manager: &Manager) -> Result<(), StoreFault>
-        ensures kept { Knows self.old _manager.now.tables → OnOk result (Knows self.new _manager.now.tables) }
-        ensures durable { Knows self.old _manager.now.tables
+        ensures kept { KnowsTables self.old _manager.now.tables
+            → OnOk result (KnowsTables self.new _manager.now.tables) }
+        ensures durable { KnowsTables self.old _manager.now.tables
             → OnOk result (AreDurable (MayLeave self.new) _manager.now.tables) }
-        ensures crash { Knows self.old _manager.now.tables → (K : Tables) → MayLeave self.new K
+        ensures crash { KnowsTables self.old _manager.now.tables → (K : Tables) → MayLeave self.new K
             → (K ≡ reopened _manager.now.tables) ⊎ MayLeave self.old K }
         ensures settles { is_ok result ≡ settles self.old }
         ensures after { self.new ≡ after_settle self.old }
@@ -256,8 +257,8 @@ impl Store for MemoryStore {
     fn reopened(self, threads: u32, room: u32) -> Result<MemoryStore, MemoryStore>
         requires threads { (1 ≤ threads) × (threads ≤ MOST_THREADS) }
         requires room { (1 ≤ room) × (room ≤ MOST_JOURNALED) }
-        ensures known { (T : Tables) → Knows self T → AreDurable (MayLeave self) T
-            → IfOk result (λ s. Knows s (reopened T)) }
+        ensures known { (T : Tables) → KnowsTables self T → AreDurable (MayLeave self) T
+            → IfOk result (λ s. KnowsTables s (reopened T)) }
         ensures crash { IfOk result (λ s. (K : Tables) → MayLeave s K → MayLeave self K) }
         ensures refused { IfErr result (λ s. s ≡ self) }
         ensures after { IfOk result (λ s. s ≡ reopened_for threads room self) }

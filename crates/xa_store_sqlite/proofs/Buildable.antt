@@ -11,13 +11,15 @@ use Rattle.sqlite_store.specs.Build.{CanBuild, listing}
 use Rattle.sqlite_store.specs.Catalog.{describes, is_about, is_plain}
 use Rattle.xa_store_sqlite.specs.Files.{store_schema, table_by}
 
-short_listing : (name sql : List ℕ) (root : ℕ) → length name + length name + length sql ≤ 1000 → IsStorable 0 (listing (table_by name sql) root)
+short_listing : (name sql : List ℕ) (root : ℕ) → length name + length name + length sql ≤ 1000
+    → IsStorable 0 (listing (table_by name sql) root)
 unfolding is_nan
 short_listing name sql root short =
     record {
       typed = λ c set. absurd (omega (arith, bit_at-zero c));
       columns = omega arith;
-      numbers = All-from_recursion (λ v. NotNan (number v)) (listing (table_by name sql) root) (tt, (tt, (tt, (tt, (tt, tt)))));
+      numbers = All-from_recursion (λ v. NotNan (number v)) (listing (table_by name sql) root)
+          (tt, (tt, (tt, (tt, (tt, tt)))));
       short = simp sum_by-cons (omega arith);
     }
 

@@ -1,6 +1,6 @@
 -- Rows stand for one image at most, but for free slots at its end, and so for the same tables.
-use Rattle.xa_base.proofs.{◌≡◌, ℕ, zero, suc, ◌+◌, ◌≤◌, ℤ, pos, List, [], ◌∷◌, length, map, Option, None, Some, option_map, refl, ap, sym, ◌∙◌, arith}
-use Rattle.xa_base.proofs.{same_Some}
+use Rattle.xa_base.proofs.{◌≡◌, ℕ, zero, suc, ◌+◌, ◌≤◌, ℤ, pos, List, [], ◌∷◌, length, map, Option, None, Some}
+use Rattle.xa_base.proofs.{option_map, refl, ap, sym, ◌∙◌, arith, same_Some}
 use Rattle.sqlite_value.specs.declared.value.Value.TheVariants.{Int, Text, Blob}
 use Rattle.sqlite_value.specs.Order.{Row}
 use Rattle.sqlite_trees.specs.Tree.{Trees}
@@ -8,8 +8,9 @@ use Rattle.xa_words.specs.{XidName}
 use Rattle.xa_tables.specs.{stored, restored, Commit, Rollback}
 use Rattle.xa_slots.specs.{Slot, rows_from}
 use Rattle.xa_store_sqlite.specs.declared.mirror.Left.TheVariants.{Prepared, Completed}
-use Rattle.xa_store_sqlite.specs.{Branch, Change, HasImage, Image, Left, account_cells, branch_cells, change_cells, left_of, name_at, state_of_left}
-use Rattle.xa_store_sqlite.specs.{item_at as at, state_text, sums_of, tables_of, with_sum}
+use Rattle.xa_store_sqlite.specs.{StoredBranch, Change, HasImage, Image, Left, account_cells, branch_cells}
+use Rattle.xa_store_sqlite.specs.{change_cells, left_in_slots, branch_name_at, state_of_left, item_at as at, state_text}
+use Rattle.xa_store_sqlite.specs.{sums_of, tables_of_image, with_sum}
 
 -- ---- rows of slots
 
@@ -36,9 +37,11 @@ none_there row rows e = let z : 0 ≡ suc (length rows) = ap length e in omega (
 above : (n : ℕ) (xs : List Slot) (row : Row) (rest : List Row) → rows_from n xs ≡ row ∷ rest → n ≤ rowid_in row
 above n [] row rest e = absurd (none_there row rest e)
 above n (None ∷ xs) row rest e = let le : suc n ≤ rowid_in row = above (suc n) xs row rest e in omega (arith, le)
-above n (Some cells ∷ xs) row rest e = let same : n ≡ rowid_in row = ap (λ (rows : List Row). rowid_in (first_of rows)) e in omega (arith, same)
+above n (Some cells ∷ xs) row rest e =
+    let same : n ≡ rowid_in row = ap (λ (rows : List Row). rowid_in (first_of rows)) e in omega (arith, same)
 
-not_later : (n : ℕ) (xs : List Slot) (cells : Row) (rest : List Row) → rows_from (suc n) xs ≡ (Int (pos n) ∷ cells) ∷ rest → ⊥
+not_later : (n : ℕ) (xs : List Slot) (cells : Row) (rest : List Row)
+    → rows_from (suc n) xs ≡ (Int (pos n) ∷ cells) ∷ rest → ⊥
 not_later n xs cells rest e = let le : suc n ≤ n = above (suc n) xs (Int (pos n) ∷ cells) rest e in omega (arith, le)
 
 pub same_slots : (n : ℕ) (xs ys : List Slot) → rows_from n xs ≡ rows_from n ys → (k : ℕ) → at xs k ≡ at ys k
@@ -103,7 +106,7 @@ state_same (Completed Rollback) (Completed Rollback) e = refl
 abbrev name_of : ℤ → List ℕ → List ℕ → XidName
 name_of format gtrid bqual = record { format = format; gtrid = gtrid; bqual = bqual }
 
-pub branch_same : (a b : Branch) → branch_cells a ≡ branch_cells b → a ≡ b
+pub branch_same : (a b : StoredBranch) → branch_cells a ≡ branch_cells b → a ≡ b
 branch_same a b e =
     ap (λ f. (name_of f a.0.gtrid a.0.bqual, a.1)) (ap int_first e)
     ∙ ap (λ g. (name_of b.0.format g a.0.bqual, a.1)) (ap blob_second e)
@@ -138,7 +141,8 @@ module _ {A : Type 0} (cells : A → Row) (same : (a b : A) → cells a ≡ cell
   same_option (Some a) (Some b) e = ap Some (same a b (same_Some _ _ e))
 
   pub options_same : (xs ys : List (Option A))
-      → rows_from 1 (map (λ x. option_map cells x) xs) ≡ rows_from 1 (map (λ y. option_map cells y) ys) → (k : ℕ) → at xs k ≡ at ys k
+      → rows_from 1 (map (λ x. option_map cells x) xs) ≡ rows_from 1 (map (λ y. option_map cells y) ys) → (k : ℕ)
+      → at xs k ≡ at ys k
   options_same xs ys e k =
       same_option (at xs k) (at ys k) (sym (at_map xs k) ∙ same_slots 1 _ _ e k ∙ at_map ys k)
 
@@ -152,29 +156,31 @@ accounts_by (a ∷ us) (b ∷ bs) e =
 
 -- ---- what stands for the manager
 
-left_none : (ys : List (Option Branch)) → ((k : ℕ) → None ≡ at ys k) → [] ≡ left_of ys
+left_none : (ys : List (Option StoredBranch)) → ((k : ℕ) → None ≡ at ys k) → [] ≡ left_in_slots ys
 left_none [] e = refl
 left_none (None ∷ ys) e = left_none ys (λ k. e (suc k))
 left_none (Some b ∷ ys) e = let z : None ≡ Some b = e 0 in cc
 
-left_same : (xs ys : List (Option Branch)) → ((k : ℕ) → at xs k ≡ at ys k) → left_of xs ≡ left_of ys
+left_same : (xs ys : List (Option StoredBranch)) → ((k : ℕ) → at xs k ≡ at ys k) → left_in_slots xs ≡ left_in_slots ys
 left_same [] ys e = left_none ys e
 left_same (x ∷ xs) [] e = sym (left_none (x ∷ xs) (λ k. sym (e k)))
 left_same (None ∷ xs) (None ∷ ys) e = left_same xs ys (λ k. e (suc k))
 left_same (None ∷ xs) (Some b ∷ ys) e = let z : None ≡ Some b = e 0 in cc
 left_same (Some a ∷ xs) (None ∷ ys) e = let z : Some a ≡ None = e 0 in cc
 left_same (Some a ∷ xs) (Some b ∷ ys) e =
-    ap (λ s. left_of (s ∷ xs)) (e 0) ∙ ap (λ rest. (b.0, state_of_left b.1) ∷ rest) (left_same xs ys (λ k. e (suc k)))
+    ap (λ s. left_in_slots (s ∷ xs)) (e 0)
+    ∙ ap (λ rest. (b.0, state_of_left b.1) ∷ rest) (left_same xs ys (λ k. e (suc k)))
 
-name_is : (xs : List (Option Branch)) (k : ℕ) → name_at xs k ≡ option_map (λ b. b.0) (at xs k)
+name_is : (xs : List (Option StoredBranch)) (k : ℕ) → branch_name_at xs k ≡ option_map (λ b. b.0) (at xs k)
 name_is [] k = refl
 name_is (x ∷ xs) zero = refl
 name_is (x ∷ xs) (suc k) = name_is xs k
 
-name_same : (xs ys : List (Option Branch)) → ((k : ℕ) → at xs k ≡ at ys k) → (k : ℕ) → name_at xs k ≡ name_at ys k
-name_same xs ys e k = name_is xs k ∙ ap (λ b. option_map (λ (b : Branch). b.0) b) (e k) ∙ sym (name_is ys k)
+name_same : (xs ys : List (Option StoredBranch)) → ((k : ℕ) → at xs k ≡ at ys k) → (k : ℕ)
+    → branch_name_at xs k ≡ branch_name_at ys k
+name_same xs ys e k = name_is xs k ∙ ap (λ b. option_map (λ (b : StoredBranch). b.0) b) (e k) ∙ sym (name_is ys k)
 
-module _ (xs ys : List (Option Branch)) (e : (k : ℕ) → at xs k ≡ at ys k) where
+module _ (xs ys : List (Option StoredBranch)) (e : (k : ℕ) → at xs k ≡ at ys k) where
   sums_none : (us : List (List ℕ × ℕ)) (ds : List (Option Change)) → ((k : ℕ) → None ≡ at ds k) → [] ≡ sums_of ys us ds
   sums_none [] ds f = refl
   sums_none (a ∷ us) [] f = refl
@@ -187,7 +193,8 @@ module _ (xs ys : List (Option Branch)) (e : (k : ℕ) → at xs k ≡ at ys k) 
   nones_sum (a ∷ us) (None ∷ ds) f = nones_sum us ds (λ k. f (suc k))
   nones_sum (a ∷ us) (Some d ∷ ds) f = let z : None ≡ Some d = f 0 in cc
 
-  sums_same : (us : List (List ℕ × ℕ)) (cs ds : List (Option Change)) → ((k : ℕ) → at cs k ≡ at ds k) → sums_of xs us cs ≡ sums_of ys us ds
+  sums_same : (us : List (List ℕ × ℕ)) (cs ds : List (Option Change)) → ((k : ℕ) → at cs k ≡ at ds k)
+      → sums_of xs us cs ≡ sums_of ys us ds
   sums_same [] cs ds f = refl
   sums_same (a ∷ us) [] ds f = sums_none (a ∷ us) ds f
   sums_same (a ∷ us) (c ∷ cs) [] f = nones_sum (a ∷ us) (c ∷ cs) (λ k. sym (f k))
@@ -197,13 +204,18 @@ module _ (xs ys : List (Option Branch)) (e : (k : ℕ) → at xs k ≡ at ys k) 
   sums_same (a ∷ us) (Some c ∷ cs) (Some d ∷ ds) f =
       ap (λ x. sums_of xs (a ∷ us) (x ∷ cs)) (f 0)
       ∙ ap (λ name. with_sum a.0 d.delta name (sums_of xs us cs)) (name_same xs ys e d.branch)
-      ∙ ap (λ rest. with_sum a.0 d.delta (name_at ys d.branch) rest) (sums_same us cs ds (λ k. f (suc k)))
+      ∙ ap (λ rest. with_sum a.0 d.delta (branch_name_at ys d.branch) rest) (sums_same us cs ds (λ k. f (suc k)))
 
-pub same_tables : (i j : Image) (trees : Trees) → HasImage i trees → HasImage j trees → tables_of i ≡ tables_of j
+pub same_tables : (i j : Image) (trees : Trees) → HasImage i trees → HasImage j trees
+    → tables_of_image i ≡ tables_of_image j
 same_tables i j trees a b =
     let accounts = accounts_by i.accounts j.accounts (same_slots 1 _ _ (sym (a 0 (omega arith)) ∙ b 0 (omega arith))) in
-    let branches = options_same branch_cells branch_same i.branches j.branches (sym (a 1 (omega arith)) ∙ b 1 (omega arith)) in
-    let changes = options_same change_cells change_same i.changes j.changes (sym (a 2 (omega arith)) ∙ b 2 (omega arith)) in
-    ap (λ us. restored (stored us (left_of i.branches) (sums_of i.branches us i.changes))) accounts
-    ∙ ap (λ left. restored (stored j.accounts left (sums_of i.branches j.accounts i.changes))) (left_same i.branches j.branches branches)
-    ∙ ap (λ sums. restored (stored j.accounts (left_of j.branches) sums)) (sums_same i.branches j.branches branches j.accounts i.changes j.changes changes)
+    let branches =
+    options_same branch_cells branch_same i.branches j.branches (sym (a 1 (omega arith)) ∙ b 1 (omega arith)) in
+    let changes =
+    options_same change_cells change_same i.changes j.changes (sym (a 2 (omega arith)) ∙ b 2 (omega arith)) in
+    ap (λ us. restored (stored us (left_in_slots i.branches) (sums_of i.branches us i.changes))) accounts
+    ∙ ap (λ left. restored (stored j.accounts left (sums_of i.branches j.accounts i.changes)))
+    (left_same i.branches j.branches branches)
+    ∙ ap (λ sums. restored (stored j.accounts (left_in_slots j.branches) sums))
+    (sums_same i.branches j.branches branches j.accounts i.changes j.changes changes)

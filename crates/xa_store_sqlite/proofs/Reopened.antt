@@ -6,7 +6,8 @@ use Rattle.xa_tables.specs.{Tables, reopened, state_of}
 use Rattle.laws_tables.proofs.TwiceReopened.{again_the_same}
 use Rattle.xa_store_sqlite.specs.{HasAllBut, Image}
 
-pub has_reopened : (told : List XidName) (are_moved : Bool) (image : Image) (T : Tables) → HasAllBut told are_moved image T
+pub has_reopened : (told : List XidName) (are_moved : Bool) (image : Image) (T : Tables)
+    → HasAllBut told are_moved image T
     → HasAllBut told are_moved image (reopened T)
 has_reopened told are_moved image T h = record {
   branches = λ x off. record {

@@ -20,7 +20,8 @@ use Rattle.xa_tables.specs.declared.restored.Sum.{Sum}
 use Rattle.xa_slots.specs.Slots.{Slot, rows_from}
 use Rattle.xa_store_sqlite.specs.declared.database.TheConstants.{PAGE_SIZE}
 use Rattle.xa_store_sqlite.specs.declared.mirror.Change.{Change}
-use Rattle.xa_store_sqlite.specs.Images.{Branch, HasImage, Image, name_at, slots_of, tables_of, with_sum}
+use Rattle.xa_store_sqlite.specs.Images.{StoredBranch, HasImage, Image, branch_name_at, slots_of, tables_of_image}
+use Rattle.xa_store_sqlite.specs.Images.{with_sum}
 
 -- ---- what the two files hold, as they are read
 
@@ -95,7 +96,7 @@ pub record AreOfRows (number : ℤ) (trees : Trees) (T : manager.Tables) : Type 
   pub image : Image
   pub numbered : image.number ≡ number
   pub has : HasImage image trees
-  pub are : T ≡ tables_of image
+  pub are : T ≡ tables_of_image image
 
 -- the trees have no row, and the manager's tables are those of an opening with these accounts
 pub record AreOfAccounts (accounts : List (List ℕ × ℕ)) (trees : Trees) (T : manager.Tables) : Type 0 where
@@ -109,13 +110,13 @@ pub record AreOfFiles (files : Bytes) (number : ℤ) (T : manager.Tables) : Type
   pub rows : AreOfRows number trees T
 
 -- the files have no row, and the manager's tables are those of an opening with these accounts
-pub record AreNew (files : Bytes) (accounts : List (List ℕ × ℕ)) (T : manager.Tables) : Type 0 where
+pub record AreNewFiles (files : Bytes) (accounts : List (List ℕ × ℕ)) (T : manager.Tables) : Type 0 where
   pub none : HasNoRow files
   pub are : T ≡ opening accounts
 
 -- the files are read as these trees, or are made with empty ones
-abbrev pub AreOpened : Bytes → Trees → Type 0
-AreOpened files trees = HasTrees files trees ⊎ (∥ IsUnstarted files ∥₁ × AreEmpty trees)
+abbrev pub AreOpenedAs : Bytes → Trees → Type 0
+AreOpenedAs files trees = HasTrees files trees ⊎ (∥ IsUnstarted files ∥₁ × AreEmpty trees)
 
 -- ---- a new file
 
@@ -147,7 +148,7 @@ pub record IsFresh (v : View) : Type 0 where
   pub unwritten : IsClean v → v.trees ≡ v.committed
 
 -- the sum of a change of the account, if both are there, and its branch
-abbrev pub sum_at : List (Option Branch) → Option (List ℕ × ℕ) → Option Change → List Sum
-sum_at branches None c = []
-sum_at branches (Some a) None = []
-sum_at branches (Some a) (Some c) = with_sum a.0 c.delta (name_at branches c.branch) []
+abbrev pub sum_of_change : List (Option StoredBranch) → Option (List ℕ × ℕ) → Option Change → List Sum
+sum_of_change branches None c = []
+sum_of_change branches (Some a) None = []
+sum_of_change branches (Some a) (Some c) = with_sum a.0 c.delta (branch_name_at branches c.branch) []

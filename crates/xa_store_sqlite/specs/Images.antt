@@ -23,7 +23,7 @@ use Rattle.xa_tables.specs.declared.state.State.TheVariants as state
 use Rattle.xa_tables.specs.declared.state.HeuristicDecision.TheVariants.{Commit, Rollback}
 use Rattle.xa_tables.specs.declared.restored.Sum.{Sum}
 use Rattle.xa_tables.specs.Restored.{Stored, stored, restored, stored_value, stored_state, sum_entries}
-use Rattle.xa_slots.specs.Slots.{Tables, HasSlots, Knows, IsCommitted}
+use Rattle.xa_slots.specs.Slots.{SlotsOfTables, HasSlots, Knows, IsCommitted}
 use Rattle.xa_store_sqlite.specs.declared.fault.Table.{Table}
 use Rattle.xa_store_sqlite.specs.declared.fault.Table.TheVariants.{Accounts, Branches, Changes, Store}
 use Rattle.xa_store_sqlite.specs.declared.mirror.Left.{Left}
@@ -32,15 +32,15 @@ use Rattle.xa_store_sqlite.specs.declared.mirror.Change.{Change}
 use Rattle.xa_store_sqlite.specs.declared.mirror.TheConstants.{MOST_BRANCHES}
 
 -- a branch with its state
-abbrev pub Branch : Type 0
-Branch = XidName × Left
+abbrev pub StoredBranch : Type 0
+StoredBranch = XidName × Left
 
 -- what a file has: its number, the keys with their values, the branches by their slots, and by the place of each
 -- account what a branch, by its slot, has added to it
 pub record Image : Type 0 where
   pub number : ℤ
   pub accounts : List (List ℕ × ℕ)
-  pub branches : List (Option Branch)
+  pub branches : List (Option StoredBranch)
   pub changes : List (Option Change)
 
 -- ---- rows: the values after the rowid, of which the first is that of the column id, which is never stored
@@ -53,7 +53,7 @@ state_text Prepared = codes "prepared"
 state_text (Completed Commit) = codes "committed heuristically"
 state_text (Completed Rollback) = codes "rolled back heuristically"
 
-abbrev pub branch_cells : Branch → Row
+abbrev pub branch_cells : StoredBranch → Row
 branch_cells b = Null ∷ Int b.0.format ∷ Blob b.0.gtrid ∷ Blob b.0.bqual ∷ Text (state_text b.1) ∷ []
 
 -- the branch by its id
@@ -92,14 +92,14 @@ pub record IsChangeRow (row : Row) : Type 0 where
   pub row_is : row ≡ change_cells change
 
 -- the number of a table among the trees of the file
-abbrev pub number_of : Table → ℕ
-number_of Accounts = 0
-number_of Branches = 1
-number_of Changes = 2
-number_of Store = 3
+abbrev pub table_number : Table → ℕ
+table_number Accounts = 0
+table_number Branches = 1
+table_number Changes = 2
+table_number Store = 3
 
 -- the four tables: accounts, branches, changes, store
-abbrev pub slots_of : Image → Tables
+abbrev pub slots_of : Image → SlotsOfTables
 slots_of image zero = map (λ a. Some (account_cells a)) image.accounts
 slots_of image (suc zero) = map (λ b. option_map branch_cells b) image.branches
 slots_of image (suc (suc zero)) = map (λ c. option_map change_cells c) image.changes
@@ -123,16 +123,16 @@ left_in (Some (state.HeuristicallyCompleted decision)) = Some (Completed decisio
 left_in s = None
 
 -- the branches of the slots that are taken
-abbrev pub left_of : List (Option Branch) → List (XidName × State)
-left_of [] = []
-left_of (None ∷ branches) = left_of branches
-left_of (Some b ∷ branches) = (b.0, state_of_left b.1) ∷ left_of branches
+abbrev pub left_in_slots : List (Option StoredBranch) → List (XidName × State)
+left_in_slots [] = []
+left_in_slots (None ∷ branches) = left_in_slots branches
+left_in_slots (Some b ∷ branches) = (b.0, state_of_left b.1) ∷ left_in_slots branches
 
 -- the name of the branch in a slot
-abbrev pub name_at : List (Option Branch) → ℕ → Option XidName
-name_at [] slot = None
-name_at (b ∷ branches) zero = option_map (λ b. b.0) b
-name_at (b ∷ branches) (suc slot) = name_at branches slot
+abbrev pub branch_name_at : List (Option StoredBranch) → ℕ → Option XidName
+branch_name_at [] slot = None
+branch_name_at (b ∷ branches) zero = option_map (λ b. b.0) b
+branch_name_at (b ∷ branches) (suc slot) = branch_name_at branches slot
 
 -- the sum of a change of this key, if its branch is there, before others
 abbrev pub with_sum : List ℕ → ℤ → Option XidName → List Sum → List Sum
@@ -140,27 +140,27 @@ with_sum key delta None sums = sums
 with_sum key delta (Some xid) sums = record { xid = xid; key = key; delta = delta } ∷ sums
 
 -- the sums of the changes, each of the key at its place
-abbrev pub sums_of : List (Option Branch) → List (List ℕ × ℕ) → List (Option Change) → List Sum
+abbrev pub sums_of : List (Option StoredBranch) → List (List ℕ × ℕ) → List (Option Change) → List Sum
 sums_of branches [] changes = []
 sums_of branches (a ∷ accounts) [] = []
 sums_of branches (a ∷ accounts) (None ∷ changes) = sums_of branches accounts changes
 sums_of branches (a ∷ accounts) (Some c ∷ changes) =
-    with_sum a.0 c.delta (name_at branches c.branch) (sums_of branches accounts changes)
+    with_sum a.0 c.delta (branch_name_at branches c.branch) (sums_of branches accounts changes)
 
 -- what it says of the manager
 abbrev pub stored_of : Image → Stored
 stored_of image =
-    stored image.accounts (left_of image.branches) (sums_of image.branches image.accounts image.changes)
+    stored image.accounts (left_in_slots image.branches) (sums_of image.branches image.accounts image.changes)
 
 -- the tables that a manager which is restored from it begins with
-abbrev pub tables_of : Image → manager.Tables
-tables_of image = restored (stored_of image)
+abbrev pub tables_of_image : Image → manager.Tables
+tables_of_image image = restored (stored_of image)
 
 -- ---- what it has of a manager's tables
 
 -- the state of a branch, and what it has added to a key
 abbrev pub state_in : Image → XidName → Option State
-state_in image x = stored_state (left_of image.branches) x
+state_in image x = stored_state (left_in_slots image.branches) x
 
 abbrev pub sum_in : Image → XidName → List ℕ → Option ℤ
 sum_in image x k =
@@ -192,18 +192,18 @@ pub record DiffersAt (x : XidName) (old new : Image) : Type 0 where
   pub accounts : new.accounts ≡ old.accounts
 
 -- the keys of accounts, in their order
-abbrev pub keys_in : List (List ℕ × ℕ) → List (List ℕ)
-keys_in accounts = map (λ a. a.0) accounts
+abbrev pub keys_of_accounts : List (List ℕ × ℕ) → List (List ℕ)
+keys_of_accounts accounts = map (λ a. a.0) accounts
 
 -- the values of these accounts are those of the tables
-abbrev pub AreValues : manager.Tables → List (List ℕ × ℕ) → Type 0
-AreValues T accounts = All (λ a. Some (pos a.1) ≡ finmap.get T.values a.0) accounts
+abbrev pub AreStoredValues : manager.Tables → List (List ℕ × ℕ) → Type 0
+AreStoredValues T accounts = All (λ a. Some (pos a.1) ≡ finmap.get T.values a.0) accounts
 
 -- it has the same of all branches, and the same keys, with the values of the tables
 pub record HasValuesOf (T : manager.Tables) (old new : Image) : Type 0 where
   pub branches : new.branches ≡ old.branches
   pub changes : new.changes ≡ old.changes
-  pub keys : keys_in new.accounts ≡ keys_in old.accounts
+  pub keys : keys_of_accounts new.accounts ≡ keys_of_accounts old.accounts
   pub values : (k : List ℕ) → is_some (stored_value old.accounts k) ≡ true
       → stored_value new.accounts k ≡ finmap.get T.values k
   pub others : (k : List ℕ) → is_some (stored_value old.accounts k) ≡ false → stored_value new.accounts k ≡ None
@@ -211,15 +211,15 @@ pub record HasValuesOf (T : manager.Tables) (old new : Image) : Type 0 where
 -- ---- what a crash leaves of it
 
 -- where a crash may leave such trees, it may leave these tables: the trees have the rows of a file that stands for them
-pub record Leaves (view : View) (recovers : Trees → Type 0) (K : manager.Tables) : Type 0 where
+pub record LeavesTables (view : View) (recovers : Trees → Type 0) (K : manager.Tables) : Type 0 where
   pub image : Image
   pub trees : Trees
   pub clean : IsClean view
   pub left : recovers trees
   pub has : HasImage image trees
-  pub is : K ≡ tables_of image
+  pub is : K ≡ tables_of_image image
 
 -- the file has the rows of the image as its store sees it, and whenever a crash comes from now on
-pub record IsSettled (view : View) (recovers : Trees → Type 0) (image : Image) : Type 0 where
+pub record IsSettledImage (view : View) (recovers : Trees → Type 0) (image : Image) : Type 0 where
   pub seen : Knows 4 view (slots_of image)
   pub kept : IsCommitted 4 view recovers (slots_of image)

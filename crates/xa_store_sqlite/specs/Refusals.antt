@@ -13,25 +13,26 @@ use Rattle.xa_base.specs.declared.limits.TheConstants.{MOST_KEYS, MOST_VALUE}
 use Rattle.xa_words.specs.Key.{is_key}
 use Rattle.xa_slots.specs.Slots.{Slot, row_of, rows_from}
 use Rattle.xa_slots.specs.Reading.{HasNoSlots}
-use Rattle.xa_slots.specs.declared.fault.ReadFault.{ReadFault}
-use Rattle.xa_slots.specs.declared.fault.ReadFault.TheVariants as unread
+use Rattle.xa_slots.specs.declared.fault.TableReadFault.{TableReadFault}
+use Rattle.xa_slots.specs.declared.fault.TableReadFault.TheVariants as unread
 use Rattle.xa_store_sqlite.specs.declared.fault.Table.{Table}
 use Rattle.xa_store_sqlite.specs.declared.fault.Table.TheVariants.{Accounts, Branches, Changes, Store}
 use Rattle.xa_store_sqlite.specs.declared.fault.RowFault.{RowFault}
 use Rattle.xa_store_sqlite.specs.declared.fault.RowFault.TheVariants.{Gap, Unknown}
-use Rattle.xa_store_sqlite.specs.declared.fault.OpenFault.{OpenFault}
-use Rattle.xa_store_sqlite.specs.declared.fault.OpenFault.TheVariants.{NoMemory, Failed, NoRoom, Damaged, NotAStore}
-use Rattle.xa_store_sqlite.specs.declared.fault.OpenFault.TheVariants.{OtherVersion, OtherNumber, TooMany, BadRow}
+use Rattle.xa_store_sqlite.specs.declared.fault.StoreOpenFault.{StoreOpenFault}
+use Rattle.xa_store_sqlite.specs.declared.fault.StoreOpenFault.TheVariants.{NoMemory, Failed, NoRoom, Damaged}
+use Rattle.xa_store_sqlite.specs.declared.fault.StoreOpenFault.TheVariants.{NotAStore, OtherVersion, OtherNumber}
+use Rattle.xa_store_sqlite.specs.declared.fault.StoreOpenFault.TheVariants.{TooMany, BadRow}
 use Rattle.xa_store_sqlite.specs.declared.mirror.Change.{Change}
 use Rattle.xa_store_sqlite.specs.declared.mirror.TheConstants.{MOST_BRANCHES}
-use Rattle.xa_store_sqlite.specs.Images.{Branch, Image, IsAccount, IsBranchRow, IsChangeRow, branch_cells, change_cells}
-use Rattle.xa_store_sqlite.specs.Images.{store_row}
+use Rattle.xa_store_sqlite.specs.Images.{StoredBranch, Image, IsAccount, IsBranchRow, IsChangeRow, branch_cells}
+use Rattle.xa_store_sqlite.specs.Images.{change_cells, store_row}
 use Rattle.xa_store_sqlite.specs.Writes.{AreOwned, item_at}
 
 -- ---- faults that say nothing of the rows
 
 -- a fault of the memory, of the disk, or of its room
-abbrev pub is_of_device : OpenFault → Bool
+abbrev pub is_of_device : StoreOpenFault → Bool
 is_of_device NoMemory = true
 is_of_device Failed = true
 is_of_device NoRoom = true
@@ -39,7 +40,7 @@ is_of_device Damaged = true
 is_of_device fault = false
 
 -- the fault that a failed call of the store is
-abbrev pub fault_of_error : StoreError → OpenFault
+abbrev pub fault_of_error : StoreError → StoreOpenFault
 fault_of_error error.OutOfMemory = NoMemory
 fault_of_error error.Io = Failed
 fault_of_error error.Corrupt = Damaged
@@ -48,19 +49,19 @@ fault_of_error error.Broken = Failed
 fault_of_error error.Unstorable = Failed
 
 -- the fault that a failed opening of the file is, where a refusal is this
-abbrev pub fault_of_opening : OpenFault → OpenError → OpenFault
+abbrev pub fault_of_opening : StoreOpenFault → OpenError → StoreOpenFault
 fault_of_opening refused opening.OutOfMemory = NoMemory
 fault_of_opening refused opening.Io = Failed
 fault_of_opening refused opening.Full = NoRoom
 fault_of_opening refused opening.Refused = refused
 
 -- the fault that a failed reading of a table is
-abbrev pub fault_of_reading : Table → ReadFault → OpenFault
+abbrev pub fault_of_reading : Table → TableReadFault → StoreOpenFault
 fault_of_reading table (unread.Failed error) = fault_of_error error
 fault_of_reading table unread.NotSlots = TooMany table
 
 -- the same of a table that is to have no row
-abbrev pub fault_of_bare : ReadFault → OpenFault
+abbrev pub fault_of_bare : TableReadFault → StoreOpenFault
 fault_of_bare (unread.Failed error) = fault_of_error error
 fault_of_bare unread.NotSlots = NotAStore
 
@@ -146,7 +147,7 @@ HasTooMany room trees Store = HasNoSlots 1 (trees 3)
 
 -- Why a table is refused that is to have slots, so many. `failed` says that the disk failed during it, and `is_broken`
 -- that the transaction was broken before it.
-abbrev pub IsUnreadFor : Table → ℕ → List Row → Bool → Type 0 → OpenFault → Type 0
+abbrev pub IsUnreadFor : Table → ℕ → List Row → Bool → Type 0 → StoreOpenFault → Type 0
 IsUnreadFor table count rows is_broken failed NoMemory = ⊤
 IsUnreadFor table count rows is_broken failed Failed = failed ⊎ IsTrue is_broken
 IsUnreadFor table count rows is_broken failed NoRoom = failed
@@ -155,7 +156,7 @@ IsUnreadFor table count rows is_broken failed (TooMany t) = (t ≡ table) × Has
 IsUnreadFor table count rows is_broken failed fault = ⊥
 
 -- why tables are refused that are to have no row
-abbrev pub IsNotBareFor : Trees → Bool → Type 0 → OpenFault → Type 0
+abbrev pub IsNotBareFor : Trees → Bool → Type 0 → StoreOpenFault → Type 0
 IsNotBareFor trees is_broken failed NoMemory = ⊤
 IsNotBareFor trees is_broken failed Failed = failed ⊎ IsTrue is_broken
 IsNotBareFor trees is_broken failed NoRoom = failed
@@ -165,7 +166,7 @@ IsNotBareFor trees is_broken failed fault = ⊥
 
 -- Why a file with these rows is refused, where one with this number is opened that is to have room for so many branches
 -- more. `failed` says that the disk failed during it, and `is_broken` that the transaction was broken before it.
-abbrev pub IsRefusedFor : ℤ → ℕ → Trees → Bool → Type 0 → OpenFault → Type 0
+abbrev pub IsRefusedFor : ℤ → ℕ → Trees → Bool → Type 0 → StoreOpenFault → Type 0
 IsRefusedFor number room trees is_broken failed NoMemory = ⊤
 IsRefusedFor number room trees is_broken failed Failed = failed ⊎ IsTrue is_broken
 IsRefusedFor number room trees is_broken failed NoRoom = failed
@@ -178,32 +179,32 @@ IsRefusedFor number room trees is_broken failed (BadRow table slot fault) = IsBa
 IsRefusedFor number room trees is_broken failed fault = ⊥
 
 -- the same of the rows as the store sees them
-abbrev pub IsRefused : ℤ → ℕ → View → Type 0 → OpenFault → Type 0
-IsRefused number room v failed fault = IsRefusedFor number room v.trees v.is_broken failed fault
+abbrev pub StoreIsRefused : ℤ → ℕ → View → Type 0 → StoreOpenFault → Type 0
+StoreIsRefused number room v failed fault = IsRefusedFor number room v.trees v.is_broken failed fault
 
 -- the same where the disk didn't fail: for the rows, or for want of memory
-abbrev pub IsRefusedForRows : ℤ → ℕ → Trees → OpenFault → Type 0
+abbrev pub IsRefusedForRows : ℤ → ℕ → Trees → StoreOpenFault → Type 0
 IsRefusedForRows number room trees fault = IsRefusedFor number room trees false ⊥ fault
 
 -- a file is another's, as this fault says
-abbrev pub IsOther : ℤ → List Row → OpenFault → Type 0
+abbrev pub IsOther : ℤ → List Row → StoreOpenFault → Type 0
 IsOther number rows OtherVersion = IsOfVersion rows
 IsOther number rows OtherNumber = IsOfNumber number rows
 IsOther number rows fault = ⊥
 
 -- a file is refused with this fault, or with one of the device
-abbrev pub IsOrOfDevice : OpenFault → OpenFault → Type 0
+abbrev pub IsOrOfDevice : StoreOpenFault → StoreOpenFault → Type 0
 IsOrOfDevice wanted fault = (fault ≡ wanted) ⊎ (is_of_device fault ≡ true)
 
 -- ---- files that a store wrote
 
 -- A store with this number may have written what the file has, and its branches leave room for so many more.
-pub record IsWhole (number : ℤ) (room : ℕ) (image : Image) : Type 0 where
+pub record MayBeOfStore (number : ℤ) (room : ℕ) (image : Image) : Type 0 where
   pub number_is : image.number ≡ number
   pub are_keys : All (λ a. is_key a.0 ≡ true) image.accounts
   pub small : All (λ a. a.1 ≤ MOST_VALUE) image.accounts
   pub few : length image.accounts ≤ MOST_KEYS
-  pub are_branches : (slot : ℕ) (b : Branch) → item_at image.branches slot ≡ Some b → IsBranchRow (branch_cells b)
+  pub are_branches : (slot : ℕ) (b : StoredBranch) → item_at image.branches slot ≡ Some b → IsBranchRow (branch_cells b)
   pub taken : ℕ
   pub free : (slot : ℕ) → taken ≤ slot → item_at image.branches slot ≡ None
   pub has_room : taken + room ≤ MOST_BRANCHES

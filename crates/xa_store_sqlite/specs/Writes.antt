@@ -16,8 +16,8 @@ use Rattle.sqlite_trees.specs.declared.store.Shape.TheVariants.{Table}
 use Rattle.xa_store_sqlite.specs.declared.mirror.Change.{Change}
 use Rattle.xa_store_sqlite.specs.declared.mirror.Mirror.{Mirror}
 use Rattle.xa_store_sqlite.specs.declared.mirror.Left.{Left}
-use Rattle.xa_store_sqlite.specs.Images.{Branch, HasAllBut, HasOf, Image, IsSettled, Lacks, name_at, slots_of, state_in}
-use Rattle.xa_store_sqlite.specs.Images.{state_of_left, sum_in}
+use Rattle.xa_store_sqlite.specs.Images.{StoredBranch, HasAllBut, HasOf, Image, IsSettledImage, Lacks, branch_name_at}
+use Rattle.xa_store_sqlite.specs.Images.{slots_of, state_in, state_of_left, sum_in}
 
 -- what a copy of the rows says
 abbrev pub image_of : Mirror → Image
@@ -28,7 +28,7 @@ image_of m =
 abbrev pub with_account : Image → ℕ → List ℕ × ℕ → Image
 with_account image place account = record image { accounts = slice_set image.accounts place account }
 
-abbrev pub with_branch : Image → ℕ → Option Branch → Image
+abbrev pub with_branch : Image → ℕ → Option StoredBranch → Image
 with_branch image slot branch = record image { branches = slice_set image.branches slot branch }
 
 abbrev pub with_change : Image → ℕ → Option Change → Image
@@ -50,7 +50,7 @@ pub record PutsSums (x : XidName) (amounts : List (List ℕ × ℤ)) (old new : 
 
 -- the branch stands in this slot in this state, where it stood nowhere, and nothing else has changed
 pub record PutsBranch (slot : ℕ) (x : XidName) (left : Left) (old new : Image) : Type 0 where
-  pub name : name_at new.branches slot ≡ Some x
+  pub name : branch_name_at new.branches slot ≡ Some x
   pub state : state_in new x ≡ Some (state_of_left left)
   pub states : (y : XidName) → xid_eq y x ≡ false → state_in new y ≡ state_in old y
   pub sums : (y : XidName) (k : List ℕ) → sum_in new y k ≡ sum_in old y k
@@ -101,21 +101,21 @@ is_removing op = false
 -- ---- where things stand
 
 -- the first place of an item that passes, where the list begins with this place
-abbrev pub place_from : {A : Type 0} → (A → Bool) → ℕ → List A → Option ℕ
-place_from test n [] = None
-place_from test n (x ∷ xs) = if test x then Some n else place_from test (suc n) xs
+abbrev pub first_place_from : {A : Type 0} → (A → Bool) → ℕ → List A → Option ℕ
+first_place_from test n [] = None
+first_place_from test n (x ∷ xs) = if test x then Some n else first_place_from test (suc n) xs
 
 -- whether a slot has this branch
-abbrev pub is_of_branch : XidName → Option Branch → Bool
+abbrev pub is_of_branch : XidName → Option StoredBranch → Bool
 is_of_branch x None = false
 is_of_branch x (Some b) = xid_eq x b.0
 
 -- each branch stands in this slot, and each key at this place
 abbrev pub AreSlots : List (XidName × ℕ) → Image → Type 0
-AreSlots slots image = (x : XidName) → lookup (xid_eq x) slots ≡ place_from (is_of_branch x) 0 image.branches
+AreSlots slots image = (x : XidName) → lookup (xid_eq x) slots ≡ first_place_from (is_of_branch x) 0 image.branches
 
 abbrev pub ArePlaces : List (List ℕ × ℕ) → Image → Type 0
-ArePlaces places image = (k : List ℕ) → lookup (key_eq k) places ≡ place_from (λ a. key_eq k a.0) 0 image.accounts
+ArePlaces places image = (k : List ℕ) → lookup (key_eq k) places ≡ first_place_from (λ a. key_eq k a.0) 0 image.accounts
 
 -- what stands at a place, and nothing past the end
 abbrev pub item_at : {A : Type 0} → List (Option A) → ℕ → Option A
@@ -124,13 +124,13 @@ item_at (x ∷ xs) zero = x
 item_at (x ∷ xs) (suc k) = item_at xs k
 
 -- no branch stands in two slots
-abbrev pub AreApart : List (Option Branch) → Type 0
-AreApart branches =
+abbrev pub NoBranchTwice : List (Option StoredBranch) → Type 0
+NoBranchTwice branches =
     (s t : ℕ) (x : XidName) → is_of_branch x (item_at branches s) ≡ true → is_of_branch x (item_at branches t) ≡ true
     → s ≡ t
 
 -- each change is of a branch that is there
-abbrev pub AreOwnedBy : List (Option Branch) → List (Option Change) → Type 0
+abbrev pub AreOwnedBy : List (Option StoredBranch) → List (Option Change) → Type 0
 AreOwnedBy branches changes =
     (p : ℕ) (c : Change) → item_at changes p ≡ Some c → is_some (item_at branches c.branch) ≡ true
 
@@ -146,7 +146,7 @@ pub record IsSeen (view : View) (recovers : Trees → Type 0) (is_written : Bool
 pub record IsInOrder (slots : List (XidName × ℕ)) (places : List (List ℕ × ℕ)) (image : Image) : Type 0 where
   pub slots_are : AreSlots slots image
   pub places_are : ArePlaces places image
-  pub apart : AreApart image.branches
+  pub apart : NoBranchTwice image.branches
   pub owned : AreOwned image
 
 -- it has nothing of these branches
@@ -157,5 +157,5 @@ LackAll xs image = (x : XidName) → list_any (xid_eq x) xs ≡ true → Lacks x
 pub record KnowsAllBut (told : List XidName) (are_moved : Bool) (view : View) (recovers : Trees → Type 0)
     (image : Image) (slots : List (XidName × ℕ)) (places : List (List ℕ × ℕ)) (T : Tables) : Type 0 where
   pub has : HasAllBut told are_moved image T
-  pub settled : IsSettled view recovers image
+  pub settled : IsSettledImage view recovers image
   pub order : IsInOrder slots places image

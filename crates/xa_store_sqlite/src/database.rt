@@ -5,12 +5,12 @@ ghost use Rattle.sqlite_store.specs.FileStore.{IsReady, view};
 ghost use Rattle.sqlite_store.specs.Unopened.{AreUsable, files_of, state_of, wanted_by};
 ghost use Rattle.sqlite_trees.specs.Tree.{Trees};
 ghost use Rattle.sqlite_wal.specs.Files.{seen_image};
-ghost use Rattle.xa_store_sqlite.specs.Files.{AreOpened, AreSynced, HasTrees, IsUnstarted, page_bytes, store_schema};
+ghost use Rattle.xa_store_sqlite.specs.Files.{AreOpenedAs, AreSynced, HasTrees, IsUnstarted, page_bytes, store_schema};
 ghost use Rattle.xa_store_sqlite.specs.Files.{table_by};
 ghost use Rattle.xa_store_sqlite.specs.Refusals.{is_of_device};
 ghost use Rattle.xa_store_sqlite.specs.Writes.{IsLaid};
 
-use crate::fault::{OpenFault, unopened};
+use crate::fault::{StoreOpenFault, unopened};
 use sqlite_disk::{Disk, Files};
 use sqlite_pager::{Options, PageSize, Pager};
 use sqlite_store::{FileStore, OpenError, Unopened};
@@ -77,7 +77,7 @@ fn schema() -> [Object<'static>; 4]
 fn over<B: Backing + Drop>(
     alloc: Global,
     files: Files<WriteThrough<B>>,
-) -> Result<Unopened<WriteThrough<B>>, OpenFault>
+) -> Result<Unopened<WriteThrough<B>>, StoreOpenFault>
     ensures usable { IfOk result AreUsable }
     ensures files { IfOk result (λ it. files_of it ≡ (files.log, files.db)) }
     ensures size { IfOk result (λ it. (state_of it).page_size ≡ page_bytes) }
@@ -85,10 +85,10 @@ fn over<B: Backing + Drop>(
     ensures device { IfErr result (λ fault. is_of_device fault ≡ true) }
 {
     if !files.may_be_used() {
-        return Err(OpenFault::Failed);
+        return Err(StoreOpenFault::Failed);
     }
     let Some(size) = PageSize::new(PAGE_SIZE as usize) else {
-        return Err(OpenFault::Failed);
+        return Err(StoreOpenFault::Failed);
     };
     let mut options = Options::new(1);
     options.cache_pages = CACHE_PAGES;
@@ -129,26 +129,26 @@ fn are_of_a_store(rows: &[Row]) -> bool {
 }
 
 // Why files aren't opened that hold a database with this list of tables.
-fn fault_of(rows: &[Row]) -> OpenFault {
+fn fault_of(rows: &[Row]) -> StoreOpenFault {
     if rows.is_empty() {
-        return OpenFault::NotADatabase;
+        return StoreOpenFault::NotADatabase;
     }
     if are_of_a_store(rows) {
-        OpenFault::Damaged
+        StoreOpenFault::Damaged
     } else {
-        OpenFault::OtherTables
+        StoreOpenFault::OtherTables
     }
 }
 
 // Why these files aren't opened. Nothing is made in them.
-fn fault_in<B: Backing + Drop>(alloc: Global, files: Files<WriteThrough<B>>) -> OpenFault {
+fn fault_in<B: Backing + Drop>(alloc: Global, files: Files<WriteThrough<B>>) -> StoreOpenFault {
     let mut found = match over(alloc, files) {
         Ok(found) => found,
         Err(fault) => return fault,
     };
     match found.read_catalog() {
         Ok(rows) => fault_of(&rows),
-        Err(error) => unopened(error, OpenFault::NotADatabase),
+        Err(error) => unopened(error, StoreOpenFault::NotADatabase),
     }
 }
 
@@ -156,7 +156,7 @@ fn fault_in<B: Backing + Drop>(alloc: Global, files: Files<WriteThrough<B>>) -> 
 fn found<B: Backing + Drop>(
     alloc: Global,
     files: Files<WriteThrough<B>>,
-) -> Result<SlotTables<TreesIn<B>>, OpenFault>
+) -> Result<SlotTables<TreesIn<B>>, StoreOpenFault>
     ensures ready { IfOk result (λ t. IsReady t.trees) }
     ensures laid { IfOk result (λ t. IsLaid (view t.trees)) }
     ensures has { IfOk result (λ t. HasTrees (seen_image ⟦<WriteThrough<B> as Disk>⟧ files.log files.db)
@@ -167,7 +167,7 @@ fn found<B: Backing + Drop>(
     match over(alloc, files)?.open_numbered() {
         Ok(trees) => Ok(SlotTables::over(alloc, trees)),
         Err((OpenError::Refused, refused)) => Err(fault_in(alloc, refused.close())),
-        Err((error, _)) => Err(unopened(error, OpenFault::Failed)),
+        Err((error, _)) => Err(unopened(error, StoreOpenFault::Failed)),
     }
 }
 
@@ -177,11 +177,11 @@ fn found<B: Backing + Drop>(
 pub(crate) fn tables_in<B: Backing + Drop>(
     alloc: Global,
     files: Files<WriteThrough<B>>,
-) -> Result<SlotTables<TreesIn<B>>, OpenFault>
+) -> Result<SlotTables<TreesIn<B>>, StoreOpenFault>
     ensures ready { IfOk result (λ t. IsReady t.trees) }
     ensures laid { IfOk result (λ t. IsLaid (view t.trees)) }
     ensures opened { AreSynced ⟦<WriteThrough<B> as Disk>⟧ files.log files.db → IfOk result (λ t.
-        AreOpened (seen_image ⟦<WriteThrough<B> as Disk>⟧ files.log files.db) (view t.trees).trees) }
+        AreOpenedAs (seen_image ⟦<WriteThrough<B> as Disk>⟧ files.log files.db) (view t.trees).trees) }
 
     // Files that hold a store's database are refused for want of memory, of room or of a disk alone.
     ensures device { AreSynced ⟦<WriteThrough<B> as Disk>⟧ files.log files.db → (trees : Trees)
@@ -195,6 +195,6 @@ pub(crate) fn tables_in<B: Backing + Drop>(
     match over(alloc, files)?.create() {
         Ok(trees) => Ok(SlotTables::over(alloc, trees)),
         Err((OpenError::Refused, refused)) => found(alloc, refused.close()),
-        Err((error, _)) => Err(unopened(error, OpenFault::Failed)),
+        Err((error, _)) => Err(unopened(error, StoreOpenFault::Failed)),
     }
 }

@@ -1,8 +1,8 @@
 //! Why a store isn't opened.
 ghost use Rattle.std.specs.Prelude.{◌≡◌, ◌≢◌, ◌⊎◌};
 ghost use Rattle.xa_tables.specs.declared.restored.RestoreFault.TheVariants as restore;
-ghost use Rattle.xa_store_sqlite.specs.declared.fault.OpenFault.TheVariants.{NoMemory, NotRestored};
-ghost use Rattle.xa_store_sqlite.specs.Images.{number_of};
+ghost use Rattle.xa_store_sqlite.specs.declared.fault.StoreOpenFault.TheVariants.{NoMemory, NotRestored};
+ghost use Rattle.xa_store_sqlite.specs.Images.{table_number};
 ghost use Rattle.xa_store_sqlite.specs.Refusals.{fault_of_error, fault_of_opening, fault_of_reading};
 
 use crate::mirror::{ACCOUNTS, BRANCHES, CHANGES, STORE};
@@ -11,7 +11,7 @@ use sqlite_trees::error::StoreError;
 use std::alloc::{AllocError, AllocFailed};
 use std::fmt;
 use thiserror::Error;
-use xa_slots::ReadFault;
+use xa_slots::TableReadFault;
 use xa_tables::RestoreFault;
 
 /// A table of the file.
@@ -26,7 +26,7 @@ pub enum Table {
 impl Table {
     /// Its number among the trees of the file.
     pub(crate) fn number(self) -> u32
-        ensures { result ≡ number_of self }
+        ensures { result ≡ table_number self }
     {
         match self {
             Table::Accounts => ACCOUNTS,
@@ -98,7 +98,7 @@ fn text_of(fault: RestoreFault) -> &'static str {
 
 /// Why a store isn't opened. The database file is left as it was, unless it was new. An empty log may have been begun.
 #[derive(Clone, Copy, Debug, PartialEq, Eq, Error)]
-pub enum OpenFault {
+pub enum StoreOpenFault {
     /// There was no memory.
     #[error("out of memory")]
     NoMemory,
@@ -139,65 +139,65 @@ pub enum OpenFault {
     NotRestored(RestoreFault),
 }
 
-impl From<AllocError> for OpenFault {
+impl From<AllocError> for StoreOpenFault {
     ghost from_gives = { λ _ fault. fault ≡ NoMemory };
 
-    fn from(_: AllocError) -> OpenFault {
-        OpenFault::NoMemory
+    fn from(_: AllocError) -> StoreOpenFault {
+        StoreOpenFault::NoMemory
     }
 }
 
-impl<T: Drop> From<AllocFailed<T>> for OpenFault {
+impl<T: Drop> From<AllocFailed<T>> for StoreOpenFault {
     ghost from_gives = { λ _ fault. fault ≡ NoMemory };
 
-    fn from(_: AllocFailed<T>) -> OpenFault {
-        OpenFault::NoMemory
+    fn from(_: AllocFailed<T>) -> StoreOpenFault {
+        StoreOpenFault::NoMemory
     }
 }
 
-impl From<RestoreFault> for OpenFault {
+impl From<RestoreFault> for StoreOpenFault {
     ghost from_gives = { λ error fault. ((error ≡ restore.NoMemory) × (fault ≡ NoMemory))
         ⊎ ((error ≢ restore.NoMemory) × (fault ≡ NotRestored error)) };
 
-    fn from(fault: RestoreFault) -> OpenFault {
+    fn from(fault: RestoreFault) -> StoreOpenFault {
         match fault {
-            RestoreFault::NoMemory => OpenFault::NoMemory,
-            fault => OpenFault::NotRestored(fault),
+            RestoreFault::NoMemory => StoreOpenFault::NoMemory,
+            fault => StoreOpenFault::NotRestored(fault),
         }
     }
 }
 
-impl From<StoreError> for OpenFault {
+impl From<StoreError> for StoreOpenFault {
     ghost from_gives = { λ error fault. fault ≡ fault_of_error error };
 
-    fn from(error: StoreError) -> OpenFault {
+    fn from(error: StoreError) -> StoreOpenFault {
         match error {
-            StoreError::OutOfMemory => OpenFault::NoMemory,
-            StoreError::Full => OpenFault::NoRoom,
-            StoreError::Corrupt => OpenFault::Damaged,
-            StoreError::Io | StoreError::Broken | StoreError::Unstorable => OpenFault::Failed,
+            StoreError::OutOfMemory => StoreOpenFault::NoMemory,
+            StoreError::Full => StoreOpenFault::NoRoom,
+            StoreError::Corrupt => StoreOpenFault::Damaged,
+            StoreError::Io | StoreError::Broken | StoreError::Unstorable => StoreOpenFault::Failed,
         }
     }
 }
 
 // Why a table with too many rows, or another fault, isn't read.
-pub(crate) fn unread(table: Table, fault: ReadFault) -> OpenFault
+pub(crate) fn unread(table: Table, fault: TableReadFault) -> StoreOpenFault
     ensures { result ≡ fault_of_reading table fault }
 {
     match fault {
-        ReadFault::Failed(error) => OpenFault::from(error),
-        ReadFault::NotSlots => OpenFault::TooMany(table),
+        TableReadFault::Failed(error) => StoreOpenFault::from(error),
+        TableReadFault::NotSlots => StoreOpenFault::TooMany(table),
     }
 }
 
 // What a failed opening of a file is, where a refusal means this.
-pub(crate) fn unopened(error: OpenError, refused: OpenFault) -> OpenFault
+pub(crate) fn unopened(error: OpenError, refused: StoreOpenFault) -> StoreOpenFault
     ensures { result ≡ fault_of_opening refused error }
 {
     match error {
-        OpenError::OutOfMemory => OpenFault::NoMemory,
-        OpenError::Io => OpenFault::Failed,
-        OpenError::Full => OpenFault::NoRoom,
+        OpenError::OutOfMemory => StoreOpenFault::NoMemory,
+        OpenError::Io => StoreOpenFault::Failed,
+        OpenError::Full => StoreOpenFault::NoRoom,
         OpenError::Refused => refused,
     }
 }

@@ -10,16 +10,17 @@ ghost use Rattle.std.proofs.Props.{props};
 ghost use Rattle.sqlite_trees.specs.View.{IsClean, IsQuiet};
 ghost use Rattle.xa_slots.specs.{IsCommitted, Knows};
 ghost use Rattle.sqlite_trees.specs.Tree as trees_of;
-ghost use Rattle.xa_store_sqlite.specs.Images.{DiffersAt, HasImage, HasOf, HasValuesOf, IsSettled, Lacks, slots_of};
-ghost use Rattle.xa_store_sqlite.specs.Images.{AreValues, keys_in, name_at, state_in, sum_in};
-ghost use Rattle.xa_store_sqlite.specs.Writes.{AreApart, AreOwned, AreSlots, IsInOrder, IsLaid, IsSeen, LackAll};
+ghost use Rattle.xa_store_sqlite.specs.Images.{DiffersAt, HasImage, HasOf, HasValuesOf, IsSettledImage, Lacks};
+ghost use Rattle.xa_store_sqlite.specs.Images.{slots_of, AreStoredValues, keys_of_accounts, branch_name_at, state_in};
+ghost use Rattle.xa_store_sqlite.specs.Images.{sum_in};
+ghost use Rattle.xa_store_sqlite.specs.Writes.{NoBranchTwice, AreOwned, AreSlots, IsInOrder, IsLaid, IsSeen, LackAll};
 ghost use Rattle.xa_store_sqlite.specs.Writes.{PutsAll, PutsBranch, PutsSum, PutsSums, RemovesAll, image_of};
-ghost use Rattle.xa_store_sqlite.specs.Writes.{is_of_branch, is_of_slot, item_at, place_from, unless_of, with_account};
-ghost use Rattle.xa_store_sqlite.specs.Writes.{with_branch, with_change, without_changes};
+ghost use Rattle.xa_store_sqlite.specs.Writes.{is_of_branch, is_of_slot, item_at, first_place_from, unless_of};
+ghost use Rattle.xa_store_sqlite.specs.Writes.{with_account, with_branch, with_change, without_changes};
 ghost use Rattle.xa_store_sqlite.specs.Files.{HasAccountsAlone, IsBare, accounts_to};
 ghost use Rattle.xa_store_sqlite.specs.Refusals.{is_of_device};
 
-use crate::fault::OpenFault;
+use crate::fault::StoreOpenFault;
 use crate::mirror::{ACCOUNTS, BRANCHES, Branch, CHANGES, Change, Left, Mirror, STORE};
 use crate::rows::{account_cells, branch_cells, change_cells, store_cells};
 use sqlite_trees::error::StoreError;
@@ -89,8 +90,8 @@ fn slots_of(
     branches: &[Option<Branch>],
     room: usize,
 ) -> Result<HashMap<Xid, u32>, AllocError>
-    ensures { AreApart branches.now → IfOk result (λ slots. (x : XidName) → lookup (xid_eq x) slots.entries
-        ≡ place_from (is_of_branch x) 0 branches.now) }
+    ensures { NoBranchTwice branches.now → IfOk result (λ slots. (x : XidName) → lookup (xid_eq x) slots.entries
+        ≡ first_place_from (is_of_branch x) 0 branches.now) }
 {
     let Ok(count) = u32::try_from(branches.len()) else {
         return Err(AllocError);
@@ -115,8 +116,8 @@ fn free_of(alloc: Global, branches: &[Option<Branch>]) -> Result<Vec<u32>, Alloc
 
 // Where each account stands.
 fn places_of(alloc: Global, accounts: &[(Key, u64)]) -> Result<HashMap<Key, u32>, AllocError>
-    ensures { IsDistinct key_eq (keys_in accounts.now) → IfOk result (λ places. (k : List ℕ)
-        → lookup (key_eq k) places.entries ≡ place_from (λ a. key_eq k a.0) 0 accounts.now) }
+    ensures { IsDistinct key_eq (keys_of_accounts accounts.now) → IfOk result (λ places. (k : List ℕ)
+        → lookup (key_eq k) places.entries ≡ first_place_from (λ a. key_eq k a.0) 0 accounts.now) }
 {
     let Ok(count) = u32::try_from(accounts.len()) else {
         return Err(AllocError);
@@ -140,8 +141,8 @@ impl<S: Trees + Drop> Kept<S> {
         ensures tables { IfOk result (λ kept. kept.tables ≡ tables) }
         ensures mirror { IfOk result (λ kept. kept.mirror ≡ mirror) }
         ensures marked { IfOk result (λ kept. kept.is_written ≡ false) }
-        ensures order { AreApart mirror.branches.items → AreOwned (image_of mirror)
-            → IsDistinct key_eq (keys_in mirror.accounts.items)
+        ensures order { NoBranchTwice mirror.branches.items → AreOwned (image_of mirror)
+            → IsDistinct key_eq (keys_of_accounts mirror.accounts.items)
             → IfOk result (λ kept. IsInOrder kept.slots.entries kept.places.entries (image_of mirror)) }
     {
         let slots = slots_of(alloc, &mirror.branches, mirror.branches.len())?;
@@ -390,7 +391,7 @@ impl<S: Trees> Kept<S> {
             → is_some (item_at self.old.mirror.branches.items slot) ≡ true
             → OnOk result (IsInOrder self.new.slots.entries self.new.places.entries (image_of self.new.mirror)) }
         ensures sum { IsInOrder self.old.slots.entries self.old.places.entries (image_of self.old.mirror)
-            → (x : XidName) → name_at self.old.mirror.branches.items slot ≡ Some x
+            → (x : XidName) → branch_name_at self.old.mirror.branches.items slot ≡ Some x
             → sum_in (image_of self.old.mirror) x key.now ≡ None
             → OnOk result (PutsSum x key.now amount (image_of self.old.mirror) (image_of self.new.mirror)) }
         ensures branches { OnOk result (self.new.mirror.branches.items ≡ self.old.mirror.branches.items) }
@@ -421,7 +422,7 @@ impl<S: Trees> Kept<S> {
             → is_some (item_at self.old.mirror.branches.items slot) ≡ true
             → OnOk result (IsInOrder self.new.slots.entries self.new.places.entries (image_of self.new.mirror)) }
         ensures sums { IsInOrder self.old.slots.entries self.old.places.entries (image_of self.old.mirror)
-            → (x : XidName) → name_at self.old.mirror.branches.items slot ≡ Some x
+            → (x : XidName) → branch_name_at self.old.mirror.branches.items slot ≡ Some x
             → ((k : List ℕ) → sum_in (image_of self.old.mirror) x k ≡ None)
             → IsDistinct key_eq (keys_of sums.now)
             → OnOk result (PutsSums x sums.now (image_of self.old.mirror) (image_of self.new.mirror)) }
@@ -543,9 +544,10 @@ impl<S: Trees> Kept<S> {
     fn put_value(&mut self, manager: &Manager, place: u32) -> Result<(), WriteFault>
         ensures branches { OnOk result ((image_of self.new.mirror).branches ≡ (image_of self.old.mirror).branches) }
         ensures changes { OnOk result ((image_of self.new.mirror).changes ≡ (image_of self.old.mirror).changes) }
-        ensures keys { OnOk result (keys_in self.new.mirror.accounts.items ≡ keys_in self.old.mirror.accounts.items) }
-        ensures values { AreValues manager.now.tables (take place self.old.mirror.accounts.items)
-            → OnOk result (AreValues manager.now.tables (take (place + 1) self.new.mirror.accounts.items)) }
+        ensures keys { OnOk result (keys_of_accounts self.new.mirror.accounts.items
+            ≡ keys_of_accounts self.old.mirror.accounts.items) }
+        ensures values { AreStoredValues manager.now.tables (take place self.old.mirror.accounts.items)
+            → OnOk result (AreStoredValues manager.now.tables (take (place + 1) self.new.mirror.accounts.items)) }
         ensures seen { IsSeen (S.view self.old.tables.trees) (S.recovers self.old.tables.trees) self.old.is_written
             (image_of self.old.mirror) → OnOk result (IsSeen (S.view self.new.tables.trees)
             (S.recovers self.new.tables.trees) self.new.is_written (image_of self.new.mirror)) }
@@ -602,7 +604,7 @@ impl<S: Trees> Kept<S> {
             → (self.old.is_written ≡ false
             → IsCommitted 4 (S.view self.old.tables.trees) (S.recovers self.old.tables.trees) (slots_of
             (image_of self.old.mirror)))
-            → OnOk result (IsSettled (S.view self.new.tables.trees) (S.recovers self.new.tables.trees)
+            → OnOk result (IsSettledImage (S.view self.new.tables.trees) (S.recovers self.new.tables.trees)
             (image_of self.new.mirror)) }
         ensures crash { Knows 4 (S.view self.old.tables.trees) (slots_of (image_of self.old.mirror))
             → IsClean (S.view self.new.tables.trees) → (db : trees_of.Trees) → S.recovers self.new.tables.trees db
@@ -627,7 +629,7 @@ impl<S: Trees> Kept<S> {
     // ---- a new file
 
     // Writes the account at a place, where those before it are written, and nothing else.
-    fn fill_account(&mut self, place: u32) -> Result<(), OpenFault>
+    fn fill_account(&mut self, place: u32) -> Result<(), StoreOpenFault>
         ensures filled { Knows 4 (S.view self.old.tables.trees) (accounts_to place (image_of self.old.mirror))
             → OnOk result (Knows 4 (S.view self.new.tables.trees) (accounts_to (place + 1)
             (image_of self.old.mirror))) }
@@ -638,10 +640,10 @@ impl<S: Trees> Kept<S> {
         ensures places { self.new.places ≡ self.old.places }
     {
         let Some(account) = self.mirror.accounts.get(place as usize).copied() else {
-            return Err(OpenFault::NotRestored(RestoreFault::BadAccounts));
+            return Err(StoreOpenFault::NotRestored(RestoreFault::BadAccounts));
         };
         if account.1 > MOST_VALUE {
-            return Err(OpenFault::NotRestored(RestoreFault::BadAccounts));
+            return Err(StoreOpenFault::NotRestored(RestoreFault::BadAccounts));
         }
         self.is_written = true;
         self.tables
@@ -650,7 +652,7 @@ impl<S: Trees> Kept<S> {
     }
 
     // Writes all accounts, where nothing is written.
-    fn fill_accounts(&mut self) -> Result<(), OpenFault>
+    fn fill_accounts(&mut self) -> Result<(), StoreOpenFault>
         ensures filled { IsBare (S.view self.old.tables.trees)
             → OnOk result (Knows 4 (S.view self.new.tables.trees)
             (accounts_to (length self.old.mirror.accounts.items) (image_of self.old.mirror))) }
@@ -661,7 +663,7 @@ impl<S: Trees> Kept<S> {
         ensures places { self.new.places ≡ self.old.places }
     {
         let Ok(count) = self.account_count() else {
-            return Err(OpenFault::NotRestored(RestoreFault::BadAccounts));
+            return Err(StoreOpenFault::NotRestored(RestoreFault::BadAccounts));
         };
         for place in 0..count {
             self.fill_account(place)?;
@@ -670,7 +672,7 @@ impl<S: Trees> Kept<S> {
     }
 
     // Writes what the file is, where its accounts are written.
-    fn fill_store(&mut self) -> Result<(), OpenFault>
+    fn fill_store(&mut self) -> Result<(), StoreOpenFault>
         ensures filled { HasAccountsAlone (image_of self.old.mirror)
             → Knows 4 (S.view self.old.tables.trees) (accounts_to (length self.old.mirror.accounts.items)
             (image_of self.old.mirror))
@@ -686,9 +688,9 @@ impl<S: Trees> Kept<S> {
     }
 
     // Makes a new file durable.
-    fn commit_new(&mut self) -> Result<(), OpenFault>
+    fn commit_new(&mut self) -> Result<(), StoreOpenFault>
         ensures settled { Knows 4 (S.view self.old.tables.trees) (slots_of (image_of self.old.mirror))
-            → OnOk result (IsSettled (S.view self.new.tables.trees) (S.recovers self.new.tables.trees)
+            → OnOk result (IsSettledImage (S.view self.new.tables.trees) (S.recovers self.new.tables.trees)
             (image_of self.old.mirror)) }
         ensures device { IfErr result (λ fault. is_of_device fault ≡ true) }
         ensures mirror { self.new.mirror ≡ self.old.mirror }
@@ -701,9 +703,9 @@ impl<S: Trees> Kept<S> {
     }
 
     /// Writes a new file, which has no row, and makes it durable: what it is, and its accounts.
-    pub(crate) fn fill(&mut self) -> Result<(), OpenFault>
+    pub(crate) fn fill(&mut self) -> Result<(), StoreOpenFault>
         ensures settled { HasAccountsAlone (image_of self.old.mirror) → IsBare (S.view self.old.tables.trees)
-            → OnOk result (IsSettled (S.view self.new.tables.trees) (S.recovers self.new.tables.trees)
+            → OnOk result (IsSettledImage (S.view self.new.tables.trees) (S.recovers self.new.tables.trees)
             (image_of self.old.mirror)) }
         ensures device { are_accounts self.old.mirror.accounts.items ≡ true
             → IfErr result (λ fault. is_of_device fault ≡ true) }

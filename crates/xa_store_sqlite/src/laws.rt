@@ -7,7 +7,7 @@ ghost use Rattle.sqlite_trees.specs.Tree.{Trees};
 ghost use Rattle.xa_tables.specs.ManagerTables.{Tables};
 ghost use Rattle.xa_tables.specs.Restored.{stored, fault_of};
 ghost use Rattle.xa_slots.specs.{rows_from};
-ghost use Rattle.xa_store_sqlite.specs.Files.{AreNew, AreOfFiles, Bytes, HasNoRow, HasTrees};
+ghost use Rattle.xa_store_sqlite.specs.Files.{AreNewFiles, AreOfFiles, Bytes, HasNoRow, HasTrees};
 ghost use Rattle.xa_store_sqlite.specs.Images.{slots_of, stored_of};
 ghost use Rattle.xa_store_sqlite.specs.Worked.{completed_name, prepared_name, two_accounts, worked_image};
 
@@ -36,5 +36,5 @@ pub fn worked_rows()
 pub fn rows_are_found()
     ensures row { (files : Bytes) (trees : Trees) → HasTrees files trees → trees 3 ≢ [] → ¬ (HasNoRow files) }
     ensures one { (files : Bytes) (number : ℤ) (accounts : List (List ℕ × ℕ)) (T U : Tables)
-        → AreOfFiles files number T → ¬ (AreNew files accounts U) }
+        → AreOfFiles files number T → ¬ (AreNewFiles files accounts U) }
 {}

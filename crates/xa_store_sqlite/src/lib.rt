@@ -26,6 +26,6 @@ mod store;
 mod told;
 
 pub use database::PAGE_SIZE;
-pub use fault::{OpenFault, RowFault, Table};
+pub use fault::{RowFault, StoreOpenFault, Table};
 pub use opening::open;
 pub use store::{SlotStore, SqliteStore};

@@ -11,16 +11,17 @@ ghost use Rattle.xa_words.specs.Accounts.{are_accounts};
 ghost use Rattle.xa_tables.specs.ManagerTables.{Tables};
 ghost use Rattle.xa_tables.specs.Openings.{IsOpening, reopened};
 ghost use Rattle.xa_tables.specs.Restored.{fault_of};
-ghost use Rattle.xa_store_sqlite.specs.Images.{HasAllBut, HasImage, Image, left_of, name_at, slots_of, stored_of};
-ghost use Rattle.xa_store_sqlite.specs.Images.{sums_of, tables_of};
-ghost use Rattle.xa_store_sqlite.specs.Files.{AreEmpty, AreNew, AreOfAccounts, AreOfFiles, AreOfRows};
-ghost use Rattle.xa_store_sqlite.specs.Files.{AreSynced, HasAccountsAlone, HasNoRow, HasTrees, IsBare, IsFresh, sum_at};
-ghost use Rattle.xa_store_sqlite.specs.Refusals.{IsWhole, is_of_device};
+ghost use Rattle.xa_store_sqlite.specs.Images.{HasAllBut, HasImage, Image, left_in_slots, branch_name_at, slots_of};
+ghost use Rattle.xa_store_sqlite.specs.Images.{stored_of, sums_of, tables_of_image};
+ghost use Rattle.xa_store_sqlite.specs.Files.{AreEmpty, AreNewFiles, AreOfAccounts, AreOfFiles, AreOfRows};
+ghost use Rattle.xa_store_sqlite.specs.Files.{AreSynced, HasAccountsAlone, HasNoRow, HasTrees, IsBare, IsFresh};
+ghost use Rattle.xa_store_sqlite.specs.Files.{sum_of_change};
+ghost use Rattle.xa_store_sqlite.specs.Refusals.{MayBeOfStore, is_of_device};
 ghost use Rattle.xa_store_sqlite.specs.Writes.{AreOwned, IsInOrder, IsLaid};
 ghost use Rattle.xa_store_sqlite.specs.Writes.{KnowsAllBut, image_of};
 
 use crate::database::tables_in;
-use crate::fault::OpenFault;
+use crate::fault::StoreOpenFault;
 use crate::kept::Kept;
 use crate::mirror::{Branch, Change, Mirror};
 use crate::reading::{mirror_of, new_mirror};
@@ -45,7 +46,7 @@ fn branches_within(requests: u32) -> usize
 
 // Puts the branch of a slot, if it has one, after these.
 fn push_left(left: &mut Vec<(Xid, State)>, branch: &Option<Branch>) -> Result<(), AllocError>
-    ensures { OnOk result (left.new.items ≡ left.old.items ++ left_of (branch.now ∷ [])) }
+    ensures { OnOk result (left.new.items ≡ left.old.items ++ left_in_slots (branch.now ∷ [])) }
 {
     if let Some((xid, state)) = branch {
         left.push((*xid, state.state()))?;
@@ -55,7 +56,7 @@ fn push_left(left: &mut Vec<(Xid, State)>, branch: &Option<Branch>) -> Result<()
 
 // The branches that the file has.
 fn left_of(alloc: Global, branches: &[Option<Branch>]) -> Result<Vec<(Xid, State)>, AllocError>
-    ensures { IfOk result (λ v. v.items ≡ left_of branches.now) }
+    ensures { IfOk result (λ v. v.items ≡ left_in_slots branches.now) }
 {
     let mut left = Vec::new(alloc);
     for branch in branches {
@@ -66,7 +67,7 @@ fn left_of(alloc: Global, branches: &[Option<Branch>]) -> Result<Vec<(Xid, State
 
 // The name of the branch in a slot.
 fn name_at(branches: &[Option<Branch>], slot: usize) -> Option<Xid>
-    ensures { result ≡ name_at branches.now slot }
+    ensures { result ≡ branch_name_at branches.now slot }
 {
     match branches.get(slot) {
         None => None,
@@ -82,7 +83,7 @@ fn push_sum(
     place: usize,
     change: &Option<Change>,
 ) -> Result<(), AllocError>
-    ensures { OnOk result (sums.new.items ≡ sums.old.items ++ sum_at mirror.now.branches.items
+    ensures { OnOk result (sums.new.items ≡ sums.old.items ++ sum_of_change mirror.now.branches.items
         (slice_get mirror.now.accounts.items place) change.now) }
 {
     let Some(account) = mirror.accounts.get(place).copied() else {
@@ -116,10 +117,15 @@ fn sums_of(alloc: Global, mirror: &Mirror) -> Result<Vec<Sum>, AllocError>
 }
 
 // The manager that what the file has stands for.
-fn manager_of(alloc: Global, mirror: &Mirror, threads: u32, room: u32) -> Result<Manager, OpenFault>
+fn manager_of(
+    alloc: Global,
+    mirror: &Mirror,
+    threads: u32,
+    room: u32,
+) -> Result<Manager, StoreOpenFault>
     requires threads { (1 ≤ threads) × (threads ≤ MOST_THREADS) }
     requires room { (1 ≤ room) × (room ≤ MOST_JOURNALED) }
-    ensures tables { IfOk result (λ m. m.tables ≡ tables_of (image_of mirror.now)) }
+    ensures tables { IfOk result (λ m. m.tables ≡ tables_of_image (image_of mirror.now)) }
     ensures opening { IfOk result (λ m. IsOpening m.tables) }
     ensures threads { IfOk result (λ m. m.threads ≡ threads) }
     ensures room { IfOk result (λ m. m.room ≡ room) }
@@ -140,7 +146,7 @@ fn manager_with<S: Trees + Drop>(
     mirror: Mirror,
     threads: u32,
     room: u32,
-) -> Result<(Manager, Kept<S>), OpenFault>
+) -> Result<(Manager, Kept<S>), StoreOpenFault>
     requires threads { (1 ≤ threads) × (threads ≤ MOST_THREADS) }
     requires room { (1 ≤ room) × (room ≤ MOST_JOURNALED) }
     requires laid { IsLaid (S.view tables.trees) }
@@ -148,7 +154,7 @@ fn manager_with<S: Trees + Drop>(
     ensures threads { IfOk result (λ p. p.0.threads ≡ threads) }
     ensures room { IfOk result (λ p. p.0.room ≡ room) }
     ensures reserved { IfOk result (λ p. p.0.reserved ≡ None) }
-    ensures are { IfOk result (λ p. p.0.tables ≡ tables_of (image_of mirror)) }
+    ensures are { IfOk result (λ p. p.0.tables ≡ tables_of_image (image_of mirror)) }
     ensures tables { IfOk result (λ p. p.1.tables ≡ tables) }
     ensures mirror { IfOk result (λ p. p.1.mirror ≡ mirror) }
     ensures has { IfOk result (λ p. HasAllBut [] false (image_of mirror) p.0.tables) }
@@ -169,7 +175,7 @@ fn found<S: Trees + Drop>(
     mirror: Mirror,
     threads: u32,
     room: u32,
-) -> Result<(Manager, Kept<S>), OpenFault>
+) -> Result<(Manager, Kept<S>), StoreOpenFault>
     requires threads { (1 ≤ threads) × (threads ≤ MOST_THREADS) }
     requires room { (1 ≤ room) × (room ≤ MOST_JOURNALED) }
     requires laid { IsLaid (S.view tables.trees) }
@@ -177,7 +183,7 @@ fn found<S: Trees + Drop>(
     ensures threads { IfOk result (λ p. p.0.threads ≡ threads) }
     ensures room { IfOk result (λ p. p.0.room ≡ room) }
     ensures reserved { IfOk result (λ p. p.0.reserved ≡ None) }
-    ensures are { IfOk result (λ p. p.0.tables ≡ tables_of (image_of mirror)) }
+    ensures are { IfOk result (λ p. p.0.tables ≡ tables_of_image (image_of mirror)) }
     ensures knows { IsFresh (S.view tables.trees) → Knows 4 (S.view tables.trees) (slots_of (image_of mirror))
         → AreOwned (image_of mirror) → IfOk result (λ p. KnowsAllBut [] false (S.view p.1.tables.trees)
         (S.recovers p.1.tables.trees) (image_of p.1.mirror) p.1.slots.entries p.1.places.entries p.0.tables) }
@@ -196,7 +202,7 @@ fn founded<S: Trees + Drop>(
     mirror: Mirror,
     threads: u32,
     room: u32,
-) -> Result<(Manager, Kept<S>), OpenFault>
+) -> Result<(Manager, Kept<S>), StoreOpenFault>
     requires threads { (1 ≤ threads) × (threads ≤ MOST_THREADS) }
     requires room { (1 ≤ room) × (room ≤ MOST_JOURNALED) }
     requires laid { IsLaid (S.view tables.trees) }
@@ -204,7 +210,7 @@ fn founded<S: Trees + Drop>(
     ensures threads { IfOk result (λ p. p.0.threads ≡ threads) }
     ensures room { IfOk result (λ p. p.0.room ≡ room) }
     ensures reserved { IfOk result (λ p. p.0.reserved ≡ None) }
-    ensures are { IfOk result (λ p. p.0.tables ≡ tables_of (image_of mirror)) }
+    ensures are { IfOk result (λ p. p.0.tables ≡ tables_of_image (image_of mirror)) }
     ensures knows { IsBare (S.view tables.trees) → HasAccountsAlone (image_of mirror) → AreOwned (image_of mirror)
         → IfOk result (λ p. KnowsAllBut [] false (S.view p.1.tables.trees) (S.recovers p.1.tables.trees)
         (image_of p.1.mirror) p.1.slots.entries p.1.places.entries p.0.tables) }
@@ -225,7 +231,7 @@ fn restored<S: Trees + Drop>(
     accounts: &[(Key, u64)],
     threads: u32,
     room: u32,
-) -> Result<(Manager, Kept<S>), OpenFault>
+) -> Result<(Manager, Kept<S>), StoreOpenFault>
     requires threads { (1 ≤ threads) × (threads ≤ MOST_THREADS) }
     requires room { (1 ≤ room) × (room ≤ MOST_JOURNALED) }
     requires laid { IsLaid (S.view tables.trees) }
@@ -240,7 +246,7 @@ fn restored<S: Trees + Drop>(
         AreOfRows number (S.view tables.trees).trees p.0.tables
         ⊎ AreOfAccounts accounts.now (S.view tables.trees).trees p.0.tables) }
     ensures whole { ((s : S) → IsClean (S.view s)) → (image : Image) → HasImage image (S.view tables.trees).trees
-        → IsWhole number ((room + 1) / 2) image → fault_of (stored_of image) ≡ None
+        → MayBeOfStore number ((room + 1) / 2) image → fault_of (stored_of image) ≡ None
         → IfErr result (λ fault. is_of_device fault ≡ true) }
     ensures new { ((s : S) → IsClean (S.view s)) → AreEmpty (S.view tables.trees).trees
         → are_accounts accounts.now ≡ true → IfErr result (λ fault. is_of_device fault ≡ true) }
@@ -291,7 +297,7 @@ pub fn open<B: Backing + Drop>(
     accounts: &[(Key, u64)],
     threads: u32,
     room: u32,
-) -> Result<(Manager, SqliteStore<B>), OpenFault>
+) -> Result<(Manager, SqliteStore<B>), StoreOpenFault>
     requires threads { (1 ≤ threads) × (threads ≤ MOST_THREADS) }
     requires room { (1 ≤ room) × (room ≤ MOST_JOURNALED) }
     ensures opening { IfOk result (λ p. IsOpening p.0.tables) }
@@ -303,7 +309,7 @@ pub fn open<B: Backing + Drop>(
     // have none, it is that of these accounts.
     ensures from { AreSynced ⟦<WriteThrough<B> as Disk>⟧ files.log files.db → IfOk result (λ p.
         AreOfFiles (seen_image ⟦<WriteThrough<B> as Disk>⟧ files.log files.db) number p.0.tables
-        ⊎ AreNew (seen_image ⟦<WriteThrough<B> as Disk>⟧ files.log files.db) accounts.now p.0.tables) }
+        ⊎ AreNewFiles (seen_image ⟦<WriteThrough<B> as Disk>⟧ files.log files.db) accounts.now p.0.tables) }
 
     // The manager has what the file has: the store was told of all that led to it, owes nothing, and a crash leaves it,
     // as far as the disk has returned what was written.
@@ -317,7 +323,7 @@ pub fn open<B: Backing + Drop>(
     // room or of a disk alone.
     ensures whole { AreSynced ⟦<WriteThrough<B> as Disk>⟧ files.log files.db → (trees : Trees) (image : Image)
         → HasTrees (seen_image ⟦<WriteThrough<B> as Disk>⟧ files.log files.db) trees → HasImage image trees
-        → IsWhole number ((room + 1) / 2) image → fault_of (stored_of image) ≡ None
+        → MayBeOfStore number ((room + 1) / 2) image → fault_of (stored_of image) ≡ None
         → IfErr result (λ fault. is_of_device fault ≡ true) }
 
     // So are files that have no row, where a manager may be declared with these accounts: a first start that was ended

@@ -1,48 +1,50 @@
 //! Reading what a file has.
-ghost use Rattle.std.specs.Prelude.{◌≡◌, ◌≤◌, ◌+◌, ◌++◌, IfErr, IfOk, IfSome, OnOk, IsErrAnd, IsErrOf, IsSomeAnd};
-ghost use Rattle.std.specs.Prelude.{None, Some, length, map, option_map, replicate, is_some, take, false, true};
+ghost use Rattle.std.specs.Prelude.{◌≡◌, ◌≤◌, ◌++◌, IfErr, IfOk, IfSome, OnOk, IsErrAnd, IsErrOf, IsSomeAnd};
+ghost use Rattle.std.specs.Prelude.{None, Some, length, map, option_map, replicate, is_some, false, true};
 ghost use Rattle.std.specs.Prelude.{[], ◌∷◌, ◌<◌, ℕ, ℤ};
 ghost use Rattle.std.specs.List.{All};
 ghost use Rattle.sqlite_disk.specs.Disk.{MoreFaults};
 ghost use Rattle.sqlite_trees.specs.Tree.{Trees};
 ghost use Rattle.sqlite_trees.specs.View.{IsClean, IsQuiet};
 ghost use Rattle.xa_base.specs.declared.limits.TheConstants.{MOST_KEYS, MOST_VALUE};
-ghost use Rattle.xa_slots.specs.{OnlyReads, rows_from};
-ghost use Rattle.xa_store_sqlite.specs.declared.fault.OpenFault.{OpenFault};
-ghost use Rattle.xa_store_sqlite.specs.declared.fault.OpenFault.TheVariants.{OtherNumber};
-ghost use Rattle.xa_store_sqlite.specs.Images.{HasImage, Image, account_cells, branch_cells, change_cells, number_of};
-ghost use Rattle.xa_store_sqlite.specs.Images.{store_cells, stored_of};
-ghost use Rattle.xa_store_sqlite.specs.Refusals.{IsNoChangeFor, IsNotBareFor, IsRefused, IsRefusedForRows, IsUnreadFor};
-ghost use Rattle.xa_store_sqlite.specs.Refusals.{IsOrOfDevice, IsOther, IsWhole, fault_of_bare, is_of_device};
+ghost use Rattle.xa_slots.specs.{EndsTaken, OnlyReads, rows_from};
+ghost use Rattle.xa_store_sqlite.specs.declared.fault.StoreOpenFault.{StoreOpenFault};
+ghost use Rattle.xa_store_sqlite.specs.declared.fault.StoreOpenFault.TheVariants.{OtherNumber};
+ghost use Rattle.xa_store_sqlite.specs.Images.{HasImage, Image, account_cells, branch_cells, change_cells};
+ghost use Rattle.xa_store_sqlite.specs.Images.{table_number, store_cells, stored_of};
+ghost use Rattle.xa_store_sqlite.specs.Refusals.{IsNoChangeFor, IsNotBareFor, StoreIsRefused, IsRefusedForRows};
+ghost use Rattle.xa_store_sqlite.specs.Refusals.{IsUnreadFor, IsOrOfDevice, IsOther, MayBeOfStore, fault_of_bare};
+ghost use Rattle.xa_store_sqlite.specs.Refusals.{is_of_device};
 ghost use Rattle.xa_store_sqlite.specs.Writes.{AreOwned, AreOwnedBy, IsLaid, image_of, item_at};
 ghost use Rattle.xa_store_sqlite.specs.declared.mirror.TheConstants.{MOST_BRANCHES};
 
-use crate::fault::{OpenFault, RowFault, Table, unread};
+use crate::fault::{RowFault, StoreOpenFault, Table, unread};
 use crate::mirror::{Branch, Change, MOST_BRANCHES, Mirror};
 use crate::rows::{VERSION, account_in, branch_in, change_in, store_in};
 use sqlite_trees::store::Store;
 use sqlite_value::row::Row;
 use std::alloc::{AllocError, Global};
 use xa_base::MOST_KEYS;
-use xa_slots::{ReadFault, SlotTables};
+use xa_slots::{SlotTables, TableReadFault};
 use xa_words::Key;
 
-// All slots of a table, of which it has so many.
+// The slots of a table, of which it has so many, up to the last that is taken.
 fn read<S: Store>(
     tables: &mut SlotTables<S>,
     alloc: Global,
     table: Table,
     count: u32,
-) -> Result<Vec<Option<Row>>, OpenFault>
+) -> Result<Vec<Option<Row>>, StoreOpenFault>
     requires { IsLaid (S.view tables.old.trees) }
-    ensures count { IfOk result (λ slots. length slots.items ≡ count) }
+    ensures few { IfOk result (λ slots. length slots.items ≤ count) }
+    ensures last { IfOk result (λ slots. EndsTaken slots.items) }
     ensures rows { IfOk result (λ slots. IsClean (S.view tables.new.trees)
-        → (S.view tables.old.trees).trees (number_of table) ≡ rows_from 1 slots.items) }
+        → (S.view tables.old.trees).trees (table_number table) ≡ rows_from 1 slots.items) }
     ensures sound { OnOk result (IsClean (S.view tables.new.trees) → (S.view tables.old.trees).is_broken ≡ false) }
     ensures only { OnOk result (OnlyReads (S.view tables.old.trees) (S.view tables.new.trees)) }
     ensures laid { OnOk result (IsLaid (S.view tables.new.trees)) }
     ensures refused { IsClean (S.view tables.new.trees) → IfErr result (IsUnreadFor table count
-        ((S.view tables.old.trees).trees (number_of table)) (S.view tables.old.trees).is_broken
+        ((S.view tables.old.trees).trees (table_number table)) (S.view tables.old.trees).is_broken
         (MoreFaults (S.faults tables.old.trees) (S.faults tables.new.trees))) }
     ensures quiet { IsQuiet S.view S.faults S.recovers S.is_shielded tables.old.trees tables.new.trees }
 {
@@ -53,7 +55,7 @@ fn read<S: Store>(
 }
 
 // The accounts of these slots, of which the first are taken and the others not.
-fn accounts_of(alloc: Global, slots: &[Option<Row>]) -> Result<Vec<(Key, u64)>, OpenFault>
+fn accounts_of(alloc: Global, slots: &[Option<Row>]) -> Result<Vec<(Key, u64)>, StoreOpenFault>
     requires { length slots.now ≤ MOST_BRANCHES }
     ensures rows { IfOk result (λ v. rows_from 1 (map (λ a. Some (account_cells a)) v.items) ≡ rows_from 1 slots.now) }
     ensures small { IfOk result (λ v. All (λ a. a.1 ≤ MOST_VALUE) v.items) }
@@ -67,29 +69,14 @@ fn accounts_of(alloc: Global, slots: &[Option<Row>]) -> Result<Vec<(Key, u64)>, 
             continue;
         };
         if slot != accounts.len() {
-            return Err(OpenFault::BadRow(Table::Accounts, slot as u32, RowFault::Gap));
+            return Err(StoreOpenFault::BadRow(Table::Accounts, slot as u32, RowFault::Gap));
         }
         match account_in(row) {
             Ok(account) => accounts.push(account)?,
-            Err(fault) => return Err(OpenFault::BadRow(Table::Accounts, slot as u32, fault)),
+            Err(fault) => return Err(StoreOpenFault::BadRow(Table::Accounts, slot as u32, fault)),
         }
     }
     Ok(accounts)
-}
-
-// How many slots there are up to the last that is taken.
-fn taken_of(slots: &[Option<Row>]) -> usize
-    ensures within { result ≤ length slots.now }
-    ensures rows { rows_from 1 (take result slots.now) ≡ rows_from 1 slots.now }
-    ensures last { (slot : ℕ) → result ≡ slot + 1 → is_some (item_at slots.now slot) ≡ true }
-{
-    let mut taken = 0;
-    for (slot, row) in slots.iter().enumerate() {
-        if row.is_some() {
-            taken = slot + 1;
-        }
-    }
-    taken
 }
 
 // The branches of these slots.
@@ -97,7 +84,7 @@ fn branches_of(
     alloc: Global,
     slots: &[Option<Row>],
     room: usize,
-) -> Result<Vec<Option<Branch>>, OpenFault>
+) -> Result<Vec<Option<Branch>>, StoreOpenFault>
     requires { length slots.now ≤ MOST_BRANCHES }
     ensures branches { IfOk result (λ v. map (λ b. option_map branch_cells b) v.items ≡ slots.now) }
     ensures refused { (number : ℤ) (all : ℕ) (trees : Trees) → trees 1 ≡ rows_from 1 slots.now
@@ -109,7 +96,11 @@ fn branches_of(
             None => None,
             Some(row) => match branch_in(row) {
                 Ok(branch) => Some(branch),
-                Err(fault) => return Err(OpenFault::BadRow(Table::Branches, slot as u32, fault)),
+                Err(fault) => return Err(StoreOpenFault::BadRow(
+                    Table::Branches,
+                    slot as u32,
+                    fault,
+                )),
             },
         };
         branches.push(branch)?;
@@ -147,7 +138,7 @@ fn changes_of(
     alloc: Global,
     slots: &[Option<Row>],
     branches: &[Option<Branch>],
-) -> Result<Vec<Option<Change>>, OpenFault>
+) -> Result<Vec<Option<Change>>, StoreOpenFault>
     requires { length slots.now ≤ MOST_BRANCHES }
     ensures changes { IfOk result (λ v. map (λ c. option_map change_cells c) v.items ≡ slots.now) }
     ensures owned { IfOk result (λ v. AreOwnedBy branches.now v.items) }
@@ -161,7 +152,11 @@ fn changes_of(
             None => None,
             Some(row) => match known_change_in(row, branches) {
                 Ok(change) => Some(change),
-                Err(fault) => return Err(OpenFault::BadRow(Table::Changes, slot as u32, fault)),
+                Err(fault) => return Err(StoreOpenFault::BadRow(
+                    Table::Changes,
+                    slot as u32,
+                    fault,
+                )),
             },
         };
         changes.push(change)?;
@@ -170,12 +165,12 @@ fn changes_of(
 }
 
 // Why a table that is to have no row isn't read.
-fn not_bare(fault: ReadFault) -> OpenFault
+fn not_bare(fault: TableReadFault) -> StoreOpenFault
     ensures { result ≡ fault_of_bare fault }
 {
     match fault {
-        ReadFault::Failed(error) => OpenFault::from(error),
-        ReadFault::NotSlots => OpenFault::NotAStore,
+        TableReadFault::Failed(error) => StoreOpenFault::from(error),
+        TableReadFault::NotSlots => StoreOpenFault::NotAStore,
     }
 }
 
@@ -184,13 +179,13 @@ fn no_slots<S: Store>(
     tables: &mut SlotTables<S>,
     alloc: Global,
     table: Table,
-) -> Result<Vec<Option<Row>>, OpenFault>
+) -> Result<Vec<Option<Row>>, StoreOpenFault>
     requires { IsLaid (S.view tables.old.trees) }
     ensures bare { OnOk result (IsClean (S.view tables.new.trees)
-        → (S.view tables.old.trees).trees (number_of table) ≡ []) }
+        → (S.view tables.old.trees).trees (table_number table) ≡ []) }
     ensures only { OnOk result (OnlyReads (S.view tables.old.trees) (S.view tables.new.trees)) }
     ensures laid { OnOk result (IsLaid (S.view tables.new.trees)) }
-    ensures refused { number_of table < 3 → IsClean (S.view tables.new.trees) → IfErr result (IsNotBareFor
+    ensures refused { table_number table < 3 → IsClean (S.view tables.new.trees) → IfErr result (IsNotBareFor
         (S.view tables.old.trees).trees (S.view tables.old.trees).is_broken
         (MoreFaults (S.faults tables.old.trees) (S.faults tables.new.trees))) }
     ensures quiet { IsQuiet S.view S.faults S.recovers S.is_shielded tables.old.trees tables.new.trees }
@@ -202,7 +197,7 @@ fn no_slots<S: Store>(
 }
 
 // Refuses tables of which one has a row.
-fn check_empty<S: Store>(tables: &mut SlotTables<S>, alloc: Global) -> Result<(), OpenFault>
+fn check_empty<S: Store>(tables: &mut SlotTables<S>, alloc: Global) -> Result<(), StoreOpenFault>
     requires { IsLaid (S.view tables.old.trees) }
     ensures bare { OnOk result (IsClean (S.view tables.new.trees) → (t : ℕ) → t < 3
         → (S.view tables.old.trees).trees t ≡ []) }
@@ -220,18 +215,18 @@ fn check_empty<S: Store>(tables: &mut SlotTables<S>, alloc: Global) -> Result<()
 }
 
 // Refuses another version of the layout, and another file.
-fn check_store(row: &Row, number: i64) -> Result<(), OpenFault>
+fn check_store(row: &Row, number: i64) -> Result<(), StoreOpenFault>
     ensures store { OnOk result (row.now ≡ store_cells number) }
     ensures other { IsErrOf result OtherNumber → row.now ≡ store_cells number → ⊥ }
     ensures refused { (room : ℕ) (trees : Trees) → trees 3 ≡ rows_from 1 (Some row.now ∷ [])
         → IfErr result (IsRefusedForRows number room trees) }
-    ensures others { (wanted : OpenFault) → IsOther number (rows_from 1 (Some row.now ∷ [])) wanted
+    ensures others { (wanted : StoreOpenFault) → IsOther number (rows_from 1 (Some row.now ∷ [])) wanted
         → IsErrOf result wanted }
 {
     match store_in(row) {
-        Err(fault) => Err(OpenFault::BadRow(Table::Store, 0, fault)),
-        Ok((version, _)) if version != VERSION => Err(OpenFault::OtherVersion),
-        Ok((_, found)) if found != number => Err(OpenFault::OtherNumber),
+        Err(fault) => Err(StoreOpenFault::BadRow(Table::Store, 0, fault)),
+        Ok((version, _)) if version != VERSION => Err(StoreOpenFault::OtherVersion),
+        Ok((_, found)) if found != number => Err(StoreOpenFault::OtherNumber),
         Ok(_) => Ok(()),
     }
 }
@@ -241,7 +236,7 @@ fn is_filled<S: Store>(
     tables: &mut SlotTables<S>,
     alloc: Global,
     number: i64,
-) -> Result<bool, OpenFault>
+) -> Result<bool, StoreOpenFault>
     requires { IsLaid (S.view tables.old.trees) }
     ensures filled { IfOk result (λ is. is ≡ true → IsClean (S.view tables.new.trees)
         → (S.view tables.old.trees).trees 3 ≡ rows_from 1 (Some (store_cells number) ∷ [])) }
@@ -250,9 +245,9 @@ fn is_filled<S: Store>(
     ensures sound { OnOk result (IsClean (S.view tables.new.trees) → (S.view tables.old.trees).is_broken ≡ false) }
     ensures only { OnOk result (OnlyReads (S.view tables.old.trees) (S.view tables.new.trees)) }
     ensures laid { OnOk result (IsLaid (S.view tables.new.trees)) }
-    ensures refused { (room : ℕ) → IsClean (S.view tables.new.trees) → IfErr result (IsRefused number room
+    ensures refused { (room : ℕ) → IsClean (S.view tables.new.trees) → IfErr result (StoreIsRefused number room
         (S.view tables.old.trees) (MoreFaults (S.faults tables.old.trees) (S.faults tables.new.trees))) }
-    ensures others { (wanted : OpenFault) → IsOther number ((S.view tables.old.trees).trees 3) wanted
+    ensures others { (wanted : StoreOpenFault) → IsOther number ((S.view tables.old.trees).trees 3) wanted
         → IsClean (S.view tables.new.trees) → IsErrAnd result (IsOrOfDevice wanted) }
     ensures quiet { IsQuiet S.view S.faults S.recovers S.is_shielded tables.old.trees tables.new.trees }
 {
@@ -266,7 +261,10 @@ fn is_filled<S: Store>(
             check_empty(tables, alloc)?;
             Ok(false)
         }
-        None => Err(OpenFault::NotAStore),
+        None => {
+            check_empty(tables, alloc)?;
+            Ok(false)
+        }
     }
 }
 
@@ -274,7 +272,7 @@ fn is_filled<S: Store>(
 fn read_accounts<S: Store>(
     tables: &mut SlotTables<S>,
     alloc: Global,
-) -> Result<Vec<(Key, u64)>, OpenFault>
+) -> Result<Vec<(Key, u64)>, StoreOpenFault>
     requires { IsLaid (S.view tables.old.trees) }
     ensures rows { IfOk result (λ v. IsClean (S.view tables.new.trees)
         → (S.view tables.old.trees).trees 0 ≡ rows_from 1 (map (λ a. Some (account_cells a)) v.items)) }
@@ -282,7 +280,8 @@ fn read_accounts<S: Store>(
     ensures few { IfOk result (λ v. length v.items ≤ MOST_KEYS) }
     ensures only { OnOk result (OnlyReads (S.view tables.old.trees) (S.view tables.new.trees)) }
     ensures laid { OnOk result (IsLaid (S.view tables.new.trees)) }
-    ensures refused { (number : ℤ) (room : ℕ) → IsClean (S.view tables.new.trees) → IfErr result (IsRefused number room
+    ensures refused { (number : ℤ) (room : ℕ) → IsClean (S.view tables.new.trees)
+        → IfErr result (StoreIsRefused number room
         (S.view tables.old.trees) (MoreFaults (S.faults tables.old.trees) (S.faults tables.new.trees))) }
     ensures quiet { IsQuiet S.view S.faults S.recovers S.is_shielded tables.old.trees tables.new.trees }
 {
@@ -290,23 +289,23 @@ fn read_accounts<S: Store>(
     accounts_of(alloc, &slots)
 }
 
-// The branches of these slots of the table, with free slots for so many more.
+// The branches of these slots of the table, of which the last is taken, with free slots for so many more.
 fn with_room(
     alloc: Global,
     slots: &[Option<Row>],
     room: usize,
-) -> Result<Vec<Option<Branch>>, OpenFault>
+) -> Result<Vec<Option<Branch>>, StoreOpenFault>
+    requires { EndsTaken slots.now }
     ensures rows { IfOk result (λ v. rows_from 1 (map (λ b. option_map branch_cells b) v.items)
         ≡ rows_from 1 slots.now) }
     ensures few { IfOk result (λ v. length v.items ≤ MOST_BRANCHES) }
     ensures refused { (number : ℤ) (trees : Trees) → trees 1 ≡ rows_from 1 slots.now
         → IfErr result (IsRefusedForRows number room trees) }
 {
-    let taken = taken_of(slots);
-    if taken.saturating_add(room) > MOST_BRANCHES as usize {
-        return Err(OpenFault::TooMany(Table::Branches));
+    if slots.len().saturating_add(room) > MOST_BRANCHES as usize {
+        return Err(StoreOpenFault::TooMany(Table::Branches));
     }
-    let mut branches = branches_of(alloc, &slots[..taken], room)?;
+    let mut branches = branches_of(alloc, slots, room)?;
     widen(&mut branches, room)?;
     Ok(branches)
 }
@@ -316,14 +315,14 @@ fn read_branches<S: Store>(
     tables: &mut SlotTables<S>,
     alloc: Global,
     room: usize,
-) -> Result<Vec<Option<Branch>>, OpenFault>
+) -> Result<Vec<Option<Branch>>, StoreOpenFault>
     requires { IsLaid (S.view tables.old.trees) }
     ensures rows { IfOk result (λ v. IsClean (S.view tables.new.trees)
         → (S.view tables.old.trees).trees 1 ≡ rows_from 1 (map (λ b. option_map branch_cells b) v.items)) }
     ensures few { IfOk result (λ v. length v.items ≤ MOST_BRANCHES) }
     ensures only { OnOk result (OnlyReads (S.view tables.old.trees) (S.view tables.new.trees)) }
     ensures laid { OnOk result (IsLaid (S.view tables.new.trees)) }
-    ensures refused { (number : ℤ) → IsClean (S.view tables.new.trees) → IfErr result (IsRefused number room
+    ensures refused { (number : ℤ) → IsClean (S.view tables.new.trees) → IfErr result (StoreIsRefused number room
         (S.view tables.old.trees) (MoreFaults (S.faults tables.old.trees) (S.faults tables.new.trees))) }
     ensures quiet { IsQuiet S.view S.faults S.recovers S.is_shielded tables.old.trees tables.new.trees }
 {
@@ -331,27 +330,42 @@ fn read_branches<S: Store>(
     with_room(alloc, &slots, room)
 }
 
-// The changes of the file, for so many accounts, each of a branch that is there.
+// Puts free slots at the end until there are so many.
+#[tactic(auto, using(xa_slots::proofs::Found::rows_none))]
+fn fill(slots: &mut Vec<Option<Row>>, count: usize) -> Result<(), AllocError>
+    requires { length slots.old.items ≤ count }
+    ensures rows { OnOk result (rows_from 1 slots.new.items ≡ rows_from 1 slots.old.items) }
+    ensures count { OnOk result (length slots.new.items ≡ count) }
+{
+    for _ in slots.len()..count {
+        slots.push(None)?;
+    }
+    Ok(())
+}
+
+// The changes of the file, a slot for each of so many accounts, each change of a branch that is there.
 fn read_changes<S: Store>(
     tables: &mut SlotTables<S>,
     alloc: Global,
     count: usize,
     branches: &[Option<Branch>],
-) -> Result<Vec<Option<Change>>, OpenFault>
+) -> Result<Vec<Option<Change>>, StoreOpenFault>
     requires laid { IsLaid (S.view tables.old.trees) }
     requires few { count ≤ MOST_KEYS }
     ensures rows { IfOk result (λ v. IsClean (S.view tables.new.trees)
         → (S.view tables.old.trees).trees 2 ≡ rows_from 1 (map (λ c. option_map change_cells c) v.items)) }
+    ensures count { IfOk result (λ v. length v.items ≡ count) }
     ensures owned { IfOk result (λ v. AreOwnedBy branches.now v.items) }
     ensures only { OnOk result (OnlyReads (S.view tables.old.trees) (S.view tables.new.trees)) }
     ensures laid { OnOk result (IsLaid (S.view tables.new.trees)) }
     ensures refused { (number : ℤ) (room : ℕ) → length ((S.view tables.old.trees).trees 0) ≡ count
         → (S.view tables.old.trees).trees 1 ≡ rows_from 1 (map (λ b. option_map branch_cells b) branches.now)
-        → IsClean (S.view tables.new.trees) → IfErr result (IsRefused number room
+        → IsClean (S.view tables.new.trees) → IfErr result (StoreIsRefused number room
         (S.view tables.old.trees) (MoreFaults (S.faults tables.old.trees) (S.faults tables.new.trees))) }
     ensures quiet { IsQuiet S.view S.faults S.recovers S.is_shielded tables.old.trees tables.new.trees }
 {
-    let slots = read(tables, alloc, Table::Changes, count as u32)?;
+    let mut slots = read(tables, alloc, Table::Changes, count as u32)?;
+    fill(&mut slots, count)?;
     changes_of(alloc, &slots, branches)
 }
 
@@ -361,7 +375,7 @@ pub(crate) fn mirror_of<S: Store>(
     alloc: Global,
     number: i64,
     room: usize,
-) -> Result<Option<Mirror>, OpenFault>
+) -> Result<Option<Mirror>, StoreOpenFault>
     requires { IsLaid (S.view tables.old.trees) }
     ensures image { IfOk result (λ found. IfSome found (λ m. IsClean (S.view tables.new.trees)
         → HasImage (image_of m) (S.view tables.old.trees).trees)) }
@@ -372,19 +386,20 @@ pub(crate) fn mirror_of<S: Store>(
     ensures number { IfOk result (λ found. IfSome found (λ m. m.number ≡ number)) }
     ensures few { IfOk result (λ found. IfSome found (λ m. length m.branches.items ≤ MOST_BRANCHES)) }
     ensures owned { IfOk result (λ found. IfSome found (λ m. AreOwned (image_of m))) }
+    ensures paired { IfOk result (λ found. IfSome found (λ m. length m.changes.items ≡ length m.accounts.items)) }
     ensures sound { OnOk result (IsClean (S.view tables.new.trees) → (S.view tables.old.trees).is_broken ≡ false) }
     ensures only { OnOk result (OnlyReads (S.view tables.old.trees) (S.view tables.new.trees)) }
     ensures laid { OnOk result (IsLaid (S.view tables.new.trees)) }
 
     // A file is refused for what is wrong with its rows, or for want of memory, of room or of a disk: where a store
     // wrote it, for these alone.
-    ensures refused { IsClean (S.view tables.new.trees) → IfErr result (IsRefused number room
+    ensures refused { IsClean (S.view tables.new.trees) → IfErr result (StoreIsRefused number room
         (S.view tables.old.trees) (MoreFaults (S.faults tables.old.trees) (S.faults tables.new.trees))) }
-    ensures whole { (image : Image) → IsWhole number room image → HasImage image (S.view tables.old.trees).trees
+    ensures whole { (image : Image) → MayBeOfStore number room image → HasImage image (S.view tables.old.trees).trees
         → IsClean (S.view tables.new.trees) → IfErr result (λ fault. is_of_device fault ≡ true) }
 
     // A file of another version, or of another store, is refused as such before all else of its rows.
-    ensures others { (wanted : OpenFault) → IsOther number ((S.view tables.old.trees).trees 3) wanted
+    ensures others { (wanted : StoreOpenFault) → IsOther number ((S.view tables.old.trees).trees 3) wanted
         → IsClean (S.view tables.new.trees) → IsErrAnd result (IsOrOfDevice wanted) }
     ensures quiet { IsQuiet S.view S.faults S.recovers S.is_shielded tables.old.trees tables.new.trees }
 {

@@ -11,7 +11,7 @@ ghost use Rattle.sqlite_trees.specs.View.{IsQuiet};
 ghost use Rattle.xa_base.specs.declared.limits.TheConstants.{MOST_KEYS};
 ghost use Rattle.xa_tables.specs.ManagerTables.{Tables};
 ghost use Rattle.xa_tables.specs.Openings.{reopened};
-ghost use Rattle.xa_store_sqlite.specs.Images.{HasAllBut, Leaves, state_in};
+ghost use Rattle.xa_store_sqlite.specs.Images.{HasAllBut, LeavesTables, state_in};
 ghost use Rattle.xa_store_sqlite.specs.Writes.{AreSlots, IsInOrder, IsSeen, KnowsAllBut, LackAll, PutsAll, RemovesAll};
 ghost use Rattle.xa_store_sqlite.specs.Writes.{image_of, is_removing};
 
@@ -285,9 +285,9 @@ impl<S: Trees> SlotStore<S> {
         ensures crash { KnowsAllBut self.old.told.branches.keys self.old.are_moved (S.view self.old.kept.tables.trees)
             (S.recovers self.old.kept.tables.trees) (image_of self.old.kept.mirror) self.old.kept.slots.entries
             self.old.kept.places.entries manager.now.tables
-            → (K : Tables) → Leaves (S.view self.new.kept.tables.trees) (S.recovers self.new.kept.tables.trees) K
+            → (K : Tables) → LeavesTables (S.view self.new.kept.tables.trees) (S.recovers self.new.kept.tables.trees) K
             → (K ≡ reopened manager.now.tables)
-            ⊎ Leaves (S.view self.old.kept.tables.trees) (S.recovers self.old.kept.tables.trees) K }
+            ⊎ LeavesTables (S.view self.old.kept.tables.trees) (S.recovers self.old.kept.tables.trees) K }
     {
         self.put_owed(manager)?;
         self.kept.commit()
@@ -296,14 +296,14 @@ impl<S: Trees> SlotStore<S> {
 
 impl<S: Trees> Store for SlotStore<S> {
     ghost use Rattle.std.specs.Prelude.{◌≡◌, ◌||◌, not, false, length, nat_eq};
-    ghost use Rattle.xa_store_sqlite.specs.Images.{Leaves};
+    ghost use Rattle.xa_store_sqlite.specs.Images.{LeavesTables};
     ghost use Rattle.xa_store_sqlite.specs.Writes.{KnowsAllBut, image_of};
 
     ghost knows = { λ s T. s.has_failed ≡ false
         → KnowsAllBut s.told.branches.keys s.are_moved (S.view s.kept.tables.trees) (S.recovers s.kept.tables.trees)
         (image_of s.kept.mirror) s.kept.slots.entries s.kept.places.entries T };
 
-    ghost may_leave = { λ s K. Leaves (S.view s.kept.tables.trees) (S.recovers s.kept.tables.trees) K };
+    ghost may_leave = { λ s K. LeavesTables (S.view s.kept.tables.trees) (S.recovers s.kept.tables.trees) K };
 
     ghost owing = { λ s. s.has_failed || (s.are_moved || not (nat_eq (length s.told.branches.keys) 0)) };
 

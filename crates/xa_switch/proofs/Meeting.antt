@@ -1,11 +1,14 @@
 -- Managers, desks and workers of one opening.
-use Rattle.xa_base.proofs.{all_map, pairs_map, get_contained, ◌≡◌, List, map, refl, sym, ap, ◌∙◌, get_or, All, All-map, ℕ, ◌+◌, ◌-◌, [], length, slice_get}
-use Rattle.xa_base.proofs.{option_map, arith, Some, All-append, slice_get-map, slice_get-get_or, contains_at, All-contains, rules, length-map, slice_get_within}
-use Rattle.xa_base.proofs.{got, got_map, all_from, all_at, map-map as map-map}
+use Rattle.xa_base.proofs.{all_map, pairs_map, get_contained, ◌≡◌, List, map, refl, sym, ap, ◌∙◌, get_or, All, All-map}
+use Rattle.xa_base.proofs.{ℕ, ◌+◌, ◌-◌, [], length, slice_get, option_map, arith, Some, All-append, slice_get-map}
+use Rattle.xa_base.proofs.{slice_get-get_or, contains_at, All-contains, rules, length-map, slice_get_within, got}
+use Rattle.xa_base.proofs.{got_map, all_from, all_at, map-map as map-map}
 use Rattle.xa_tables.specs.{Managed, IsOpening, Tables}
-use Rattle.xa_switch.specs.{new_manager, Again, Setup, IsNewDesk, IsNewWorker, ShareNewLanes, AreOfOneOpening, DeskSeat, WorkerSeat, openings_of, end_seat}
-use Rattle.xa_switch.specs.{seat_of_desk, seat_of_worker, ShareLanes, AreTogether, AreApartDesks, AreApartWorkers, ComeFromOpenings, Each, AreLanes}
-use Rattle.xa_switch.specs.{IsRequestSender, IsCompletionSender, DesksFit, WorkersFit, IsDeskOf, IsWorkerOf, IsLaidOut, setup, completion_room, Layout}
+use Rattle.xa_switch.specs.{new_manager, Again, Setup, IsNewDesk, IsNewWorker, ShareNewLanes, AreOfOneOpening, DeskSeat}
+use Rattle.xa_switch.specs.{WorkerSeat, openings_of, end_seat, seat_of_desk, seat_of_worker, ShareLanes, AreTogether}
+use Rattle.xa_switch.specs.{AreApartDesks, AreApartWorkers, ComeFromOpenings, Each, AreLanes, IsRequestSender}
+use Rattle.xa_switch.specs.{IsCompletionSender, DesksFit, WorkersFit, IsDeskOf, IsWorkerOf, IsLaidOut, setup}
+use Rattle.xa_switch.specs.{completion_room, Layout}
 use Rattle.xa_words.specs.{Request, Completion}
 use Rattle.xa_lane.specs.{Sending, Receiving}
 use Rattle.xa_desk.specs.{DeskView, ledger, AllKept}
@@ -15,20 +18,30 @@ use Rattle.xa_worker.specs.{Answering, WorkerView}
 -- ---- managers that an opening begins with, each with its tables
 
 -- one is made of each of xs, with these numbers
-module _ {A : Type 0} (n : Again) (tables : A → Tables) (xs : List A) (ms : List Managed) (made : ms ≡ map (λ x. new_manager n (tables x)) xs) where
+module _ {A : Type 0} (n : Again) (tables : A → Tables) (xs : List A) (ms : List Managed)
+    (made : ms ≡ map (λ x. new_manager n (tables x)) xs) where
   pub all_new : All (λ m. m ≡ new_manager n m.tables) ms
-  all_new = rw made (All-map (λ (m : Managed). m ≡ new_manager n m.tables) (λ (x : A). new_manager n (tables x)) xs (λ k d lt. refl))
+  all_new =
+      rw made
+      (All-map (λ (m : Managed). m ≡ new_manager n m.tables) (λ (x : A). new_manager n (tables x)) xs
+      (λ k d lt. refl))
 
   pub all_begin : ((x : A) → IsOpening (tables x)) → All (λ m. IsOpening m.tables) ms
-  all_begin opens = rw made (All-map (λ (m : Managed). IsOpening m.tables) (λ (x : A). new_manager n (tables x)) xs (λ k d lt. opens (get_or xs k d)))
+  all_begin opens =
+      rw made
+      (All-map (λ (m : Managed). IsOpening m.tables) (λ (x : A). new_manager n (tables x)) xs
+      (λ k d lt. opens (get_or xs k d)))
 
   pub tables_are : map (λ m. m.tables) ms ≡ map tables xs
-  tables_are = ap (map (λ (m : Managed). m.tables)) made ∙ map-map (λ (m : Managed). m.tables) (λ (x : A). new_manager n (tables x)) xs
+  tables_are =
+      ap (map (λ (m : Managed). m.tables)) made
+      ∙ map-map (λ (m : Managed). m.tables) (λ (x : A). new_manager n (tables x)) xs
 
 -- ---- an opening
 
 module _ (p : Setup) (ds : List DeskView) (ws : List WorkerView) (h : AreOfOneOpening p ds ws) where
-  share : (t m : ℕ) (d : DeskView) (w : WorkerView) → slice_get ds t ≡ Some d → slice_get ws m ≡ Some w → ShareLanes (seat_of_desk d) (seat_of_worker w)
+  share : (t m : ℕ) (d : DeskView) (w : WorkerView) → slice_get ds t ≡ Some d → slice_get ws m ≡ Some w
+      → ShareLanes (seat_of_desk d) (seat_of_worker w)
   share t m d w at_d at_w =
       let D : IsNewDesk p t d = h.desks t d at_d in
       let W : IsNewWorker p m w = h.workers m w at_w in
@@ -42,11 +55,19 @@ module _ (p : Setup) (ds : List DeskView) (ws : List WorkerView) (h : AreOfOneOp
       record {
         asking = end_seat T.asking;
         asks = search (arith, slice_get-map, option_map, slice_get, d.requests);
-        asked = (ap (λ (e : Sending Request). e.lane) asking ∙ sym (ap (λ (r : Receiving Request). r.lane) W.requests), T.asked);
+        asked = (
+          ap (λ (e : Sending Request). e.lane) asking
+              ∙ sym (ap (λ (r : Receiving Request). r.lane) W.requests),
+          T.asked,
+        );
         asker = let i = ap (λ (e : Sending Request). e.index) asking in omega (arith, i, thread);
         answering = end_seat T.answering;
         answers = search (arith, slice_get-map, option_map, slice_get, w.out.senders);
-        answered = (ap (λ (e : Answering). e.lane) answering ∙ sym (ap (λ (r : Receiving Completion). r.lane) D.completions), T.answered);
+        answered = (
+          ap (λ (e : Answering). e.lane) answering
+              ∙ sym (ap (λ (r : Receiving Completion). r.lane) D.completions),
+          T.answered,
+        );
         answerer = let i = ap (λ (e : Answering). e.index) answering in omega (arith, i, number);
       }
 
@@ -65,7 +86,8 @@ module _ (p : Setup) (ds : List DeskView) (ws : List WorkerView) (h : AreOfOneOp
   opened = record {
     together =
         all_map seat_of_desk (λ s. All (AreTogether s) (map seat_of_worker ws)) ds
-        (λ d cd. all_map seat_of_worker (AreTogether (seat_of_desk d)) ws (λ w cw same. share cd.0 cw.0 d w (get_contained ds d cd) (get_contained ws w cw)));
+        (λ d cd. all_map seat_of_worker (AreTogether (seat_of_desk d)) ws
+        (λ w cw same. share cd.0 cw.0 d w (get_contained ds d cd) (get_contained ws w cw)));
     desks_apart = pairs_map seat_of_desk AreApartDesks ds (λ i k d lt below same e.
         let x = thread_at i (get_or ds i d) (slice_get-get_or ds i d (omega (arith, lt, below))) in
         let y = thread_at k (get_or ds k d) (slice_get-get_or ds k d below) in
@@ -74,12 +96,14 @@ module _ (p : Setup) (ds : List DeskView) (ws : List WorkerView) (h : AreOfOneOp
         let x = number_at i (get_or ws i d) (slice_get-get_or ws i d (omega (arith, lt, below))) in
         let y = number_at k (get_or ws k d) (slice_get-get_or ws k d below) in
         omega (arith, x, y, e, lt));
-    opened = all_map seat_of_worker (λ (s : WorkerSeat). IsOpening s.first) ws (λ w cw. opened_at cw.0 w (get_contained ws w cw));
+    opened = all_map seat_of_worker (λ (s : WorkerSeat). IsOpening s.first) ws
+        (λ w cw. opened_at cw.0 w (get_contained ws w cw));
   }
 
   pub numbered : All (λ n. n ≡ p.numbers.opening) (openings_of (map seat_of_desk ds) (map seat_of_worker ws))
   numbered =
-      All-append (λ n. n ≡ p.numbers.opening) (map (λ (s : DeskSeat). s.lane.opening) (map seat_of_desk ds)) (map (λ (s : WorkerSeat). s.lane.opening) (map seat_of_worker ws))
+      All-append (λ n. n ≡ p.numbers.opening) (map (λ (s : DeskSeat). s.lane.opening) (map seat_of_desk ds))
+      (map (λ (s : WorkerSeat). s.lane.opening) (map seat_of_worker ws))
       (All-map (λ n. n ≡ p.numbers.opening) (λ (s : DeskSeat). s.lane.opening) (map seat_of_desk ds)
       (all_map seat_of_desk (λ (s : DeskSeat). s.lane.opening ≡ p.numbers.opening) ds
       (λ d cd. ap (λ (r : Receiving Completion). r.lane.opening) (h.desks cd.0 d (get_contained ds d cd)).completions)))
@@ -99,8 +123,10 @@ module _ (p : Setup) (ds : List DeskView) (ws : List WorkerView) (h : AreOfOneOp
 -- ---- desks and workers of one opening
 
 -- each sender of a column has its receiver
-its_receiver : {S R : Type 0} {IsReceiver : ℕ → R → Type 0} {IsSender : ℕ → ℕ → S → R → Type 0} {senders lanes : ℕ} {C : List (List S)} {rs : List R}
-    → AreLanes IsReceiver IsSender senders lanes C rs → (k : ℕ) (c : List S) → slice_get C k ≡ Some c → (j : ℕ) (s : S) → slice_get c j ≡ Some s → (r : R)
+its_receiver : {S R : Type 0} {IsReceiver : ℕ → R → Type 0} {IsSender : ℕ → ℕ → S → R → Type 0} {senders lanes : ℕ}
+    {C : List (List S)} {rs : List R}
+    → AreLanes IsReceiver IsSender senders lanes C rs → (k : ℕ) (c : List S) → slice_get C k ≡ Some c → (j : ℕ) (s : S)
+    → slice_get c j ≡ Some s → (r : R)
     × IsSender k j s r
 its_receiver {rs = rs} are k c at j s at_s =
     let r = got rs j (omega (arith, slice_get_within c j s at_s, are.deep k c at, are.many)) in
@@ -121,7 +147,8 @@ module _ (l : Layout) (xs : List Managed) (is : IsLaidOut l) (many : length xs �
   answers = map (λ c. c.items) l.completions.columns.items
 
   -- the senders of thread t + 1 are on the lanes to each manager
-  request_senders : (t : ℕ) (c : List (Sending Request)) → slice_get asks t ≡ Some c → Each (IsRequestSender p.numbers.opening p.numbers.queue t) c
+  request_senders : (t : ℕ) (c : List (Sending Request)) → slice_get asks t ≡ Some c
+      → Each (IsRequestSender p.numbers.opening p.numbers.queue t) c
   request_senders t c at m s at_s = (its_receiver is.requests t c at m s at_s).1.0
 
   completion_senders : (m : ℕ) (c : List Answering) → slice_get answers m ≡ Some c
@@ -147,7 +174,10 @@ module _ (l : Layout) (xs : List Managed) (is : IsLaidOut l) (many : length xs �
           lane = ap (λ x. x.lane.index) receiver ∙ sym thread;
           senders = ap (λ x. x.senders) receiver ∙ sym managers;
         },
-        record { sent = all_from (λ s. s.sent ≡ []) c (λ m s at_s. ap (λ x. x.sent) (senders m s at_s)); taken = ap (λ x. x.taken) receiver },
+        record {
+          sent = all_from (λ s. s.sent ≡ []) c (λ m s at_s. ap (λ x. x.sent) (senders m s at_s));
+          taken = ap (λ x. x.taken) receiver;
+        },
       )
 
   -- a worker with its manager, the lane of its requests and its senders of completions
@@ -161,10 +191,12 @@ module _ (l : Layout) (xs : List Managed) (is : IsLaidOut l) (many : length xs �
     );
   }
 
-  new_desk_is : (t : ℕ) (d : DeskView) → IsDeskOf l.desk_parts.items asks l.completions.receivers.items t d → IsNewDesk p t d
+  new_desk_is : (t : ℕ) (d : DeskView) → IsDeskOf l.desk_parts.items asks l.completions.receivers.items t d
+      → IsNewDesk p t d
   new_desk_is t d of = search (arith, request_senders, of.requests, of.part, of.completions)
 
-  new_worker_is : (m : ℕ) (w : WorkerView) → IsWorkerOf l.worker_parts.items xs l.requests.receivers.items answers m w → IsNewWorker p m w
+  new_worker_is : (m : ℕ) (w : WorkerView) → IsWorkerOf l.worker_parts.items xs l.requests.receivers.items answers m w
+      → IsNewWorker p m w
   new_worker_is m w of =
       rw of.made (record {
         first = of.manager.tables;
@@ -175,7 +207,8 @@ module _ (l : Layout) (xs : List Managed) (is : IsLaidOut l) (many : length xs �
         completions = completion_senders m of.senders of.senders_at;
       })
 
-  together_are : (t m : ℕ) (d : DeskView) (w : WorkerView) → IsDeskOf l.desk_parts.items asks l.completions.receivers.items t d
+  together_are : (t m : ℕ) (d : DeskView) (w : WorkerView)
+      → IsDeskOf l.desk_parts.items asks l.completions.receivers.items t d
       → IsWorkerOf l.worker_parts.items xs l.requests.receivers.items answers m w
       → ShareNewLanes t m d w
   together_are t m d w of_d of_w =
@@ -185,9 +218,24 @@ module _ (l : Layout) (xs : List Managed) (is : IsLaidOut l) (many : length xs �
       let answers_deep = is.completions.deep m of_w.senders of_w.senders_at in
       let s = got of_d.requests m (omega (arith, m_low, is.managers, asks_deep)) in
       let a = got of_w.senders t (omega (arith, t_low, is.threads, answers_deep)) in
-      search (arith, of_d.part, of_d.requests, s.0, of_w.requests, of_d.requests_at, s.1, of_w.senders, a.0, of_d.completions, of_w.senders_at, a.1)
+      search (
+        arith,
+        of_d.part,
+        of_d.requests,
+        s.0,
+        of_w.requests,
+        of_d.requests_at,
+        s.1,
+        of_w.senders,
+        a.0,
+        of_d.completions,
+        of_w.senders_at,
+        a.1,
+      )
 
-  pub one_opening : (ds : List DeskView) (ws : List WorkerView) → length ds ≡ length l.desk_parts.items → length ws ≡ length l.worker_parts.items
+  pub one_opening : (ds : List DeskView) (ws : List WorkerView) → length ds ≡ length l.desk_parts.items
+      → length ws ≡ length l.worker_parts.items
       → Each (IsDeskOf l.desk_parts.items asks l.completions.receivers.items) ds
       → Each (IsWorkerOf l.worker_parts.items xs l.requests.receivers.items answers) ws → AreOfOneOpening p ds ws
-  one_opening ds ws many_d many_w desks workers = search (arith, length-map, new_desk_is, new_worker_is, together_are, All-map)
+  one_opening ds ws many_d many_w desks workers =
+      search (arith, length-map, new_desk_is, new_worker_is, together_are, All-map)

@@ -5,7 +5,7 @@ use Rattle.std.specs.List.{All}
 use Rattle.xa_base.specs.declared.limits.TheConstants.{MOST_SENDERS}
 use Rattle.xa_words.specs.declared.request.Completion.{Completion}
 use Rattle.xa_lane.specs.Ends.{Sending, Receiving}
-use Rattle.xa_lane.specs.Closing.{IsWhole, Conserves, LeavesNothing, AreKnown, items_in}
+use Rattle.xa_lane.specs.Closing.{HasAllEnds, Conserves, LeavesNothing, AreKnown, items_in}
 use Rattle.xa_tables.specs.Histories.{History}
 use Rattle.xa_desk.specs.Ended.{EndedView}
 use Rattle.xa_worker.specs.Workers.{RequestLane}
@@ -28,12 +28,12 @@ column cs k = slice_index_or cs k []
 pub record IsClosable {T : Type 0} (r : Receiving T) (ends : List (Sending T)) : Type 0 where
   pub lanes : All (λ e. e.lane ≡ r.lane) ends
   pub lines : All (λ e. e.line ≡ r.line) ends
-  pub whole : IsWhole r.senders ends
+  pub whole : HasAllEnds r.senders ends
 
 -- the lane was closed with these ends: of each, what was taken and what was left is what it sent
 pub record IsClosed {T : Type 0} (r : Receiving T) (ends : List (Sending T)) : Type 0 where
   pub left : List (ℕ × T)
-  pub whole : IsWhole r.senders ends
+  pub whole : HasAllEnds r.senders ends
   pub conserves : Conserves ends r.taken left
   pub nothing : LeavesNothing ends r.taken left
   pub known : AreKnown r.senders r.taken left
@@ -76,17 +76,18 @@ pub record HasTaken {E R P : Type 0} (n : ℕ) (rows : List (List E)) (ls : List
   pub parts_room : n ≤ vec_capacity r.parts
 
 -- none was taken in yet
-abbrev pub HasRoomFor : {E R P : Type 0} → ℕ → Gathered E R P → Type 0
-HasRoomFor {E} {R} {P} n r = HasTaken n [] [] [] r
+abbrev pub HasRoomForPieces : {E R P : Type 0} → ℕ → Gathered E R P → Type 0
+HasRoomForPieces {E} {R} {P} n r = HasTaken n [] [] [] r
 
 -- there is room for one piece more
-pub record HasRoom {E R P : Type 0} (r : Gathered E R P) : Type 0 where
+pub record HasRoomForPiece {E R P : Type 0} (r : Gathered E R P) : Type 0 where
   pub columns : All (λ c. length c.items < vec_capacity c) r.columns.items
   pub lanes : length r.lanes.items < vec_capacity r.lanes
   pub parts : length r.parts.items < vec_capacity r.parts
 
 -- one piece more was taken in: its row of ends was dealt, and its lane and its part come last
-pub record TakesIn {E R P : Type 0} (row : List E) (lane : ℕ × R) (part : P) (old new : Gathered E R P) : Type 0 where
+pub record TakesInPiece {E R P : Type 0} (row : List E) (lane : ℕ × R) (part : P) (old new : Gathered E R P)
+    : Type 0 where
   pub columns : map (λ c. c.items) new.columns.items ≡ put_row (map (λ c. c.items) old.columns.items) row
   pub depth : map (λ c. vec_capacity c) new.columns.items ≡ map (λ c. vec_capacity c) old.columns.items
   pub lanes : new.lanes.items ≡ old.lanes.items ++ lane ∷ []

@@ -22,12 +22,12 @@ abbrev pub first_of : Settling → ℕ → Option Tables
 first_of s m = option_map (λ p. p.first) (find_manager m s.managers)
 
 -- what became of a branch at manager m by the manager's journal, where its fate was f as the opening began
-abbrev pub fate_in : XidName → Fate → Option ManagerPart → Fate
-fate_in x f None = f
-fate_in x f (Some p) = fate x f (requests p.journal) p.first
+abbrev pub fate_at_manager : XidName → Fate → Option ManagerPart → Fate
+fate_at_manager x f None = f
+fate_at_manager x f (Some p) = fate x f (requests p.journal) p.first
 
 abbrev pub settled_fate : Settling → ℕ → XidName → Fate → Fate
-settled_fate s m x f = fate_in x f (find_manager m s.managers)
+settled_fate s m x f = fate_at_manager x f (find_manager m s.managers)
 
 -- The tables are those that manager m began with, any without a key for no manager: its journal is what they make of
 -- the requests that it took, and so is what became of each branch; and the value of a key is that in the tables after

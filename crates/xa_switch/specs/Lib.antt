@@ -24,12 +24,12 @@ pub use Belonging.{AreAll, AreApartDesks, AreApartWorkers, AreOfOne, AreSomeOf, 
 pub use Belonging.{EndSeat, HasDesks, HasWorkers, IsWhyUnsettled, ShareLanes, WorkerSeat, desk_opening, desk_seats}
 pub use Belonging.{end_seat, first_opening, first_worker_opening, has_desk, has_worker, openings_of, seat_of_desk}
 pub use Belonging.{seat_of_done, seat_of_ended, seat_of_worker, worker_opening, worker_seats}
-pub use Closing.{HasRoom, HasRoomFor, HasTaken, IsClosable, IsClosed, TakesIn, column, dealt, desk_lane, manager_part}
-pub use Closing.{ready_part, settling, taken_by, thread_part, worker_lane}
-pub use Fates.{IsOpenedWith, IsSumOver, fate_in, first_of, history, ledgers_of, settled_fate}
+pub use Closing.{HasRoomForPiece, HasRoomForPieces, HasTaken, IsClosable, IsClosed, TakesInPiece, column, dealt}
+pub use Closing.{desk_lane, manager_part, ready_part, settling, taken_by, thread_part, worker_lane}
+pub use Fates.{IsOpenedWith, IsSumOver, fate_at_manager, first_of, history, ledgers_of, settled_fate}
 pub use OfPlans.{IsOf, IsOfPlan}
-pub use Worth.{WorthIsOfThreads, accounts_in, accounts_of, managers_of, moved_at, moved_by, plan_worth, settled_worth}
-pub use Worth.{threads_of}
+pub use Worth.{WorthIsOfThreads, accounts_in, accounts_of, managers_of_plan, moved_at, moved_by_thread, plan_worth}
+pub use Worth.{settled_worth, threads_of_plan}
 pub use Reopening.{IsWhole, MayReopen, find_ready, first_ledgers, flags_in, last_in, managers_in, parts_of, reopened_at}
 pub use Reopening.{reopening}
 pub use Recovery.{AreScansOf, HasLeft, IsScanOf}

@@ -6,7 +6,7 @@ use Rattle.xa_words.specs.declared.request.Request.{Request}
 use Rattle.xa_words.specs.declared.request.Completion.{Completion}
 use Rattle.xa_lane.specs.Ends.{Sending, Receiving}
 use Rattle.xa_desk.specs.DeskViews.{DeskView}
-use Rattle.xa_desk.specs.Lanes.{PartsView, AreEnds, AreNew, new_desk}
+use Rattle.xa_desk.specs.Lanes.{PartsView, AreEnds, AreUnused, new_desk}
 use Rattle.xa_worker.specs.Outgoing.{Answering}
 use Rattle.xa_worker.specs.Workers.{Reserved, RequestLane, WorkerView, new_worker}
 use Rattle.xa_tables.specs.ManagerTables.{Tables}
@@ -46,7 +46,7 @@ pub record IsLaidOut (l : Layout) : Type 0 where
 abbrev pub DesksFit : List PartsView → List (List (Sending Request)) → List (Receiving Completion) → Type 0
 DesksFit parts columns receivers = (k : ℕ) (p : PartsView) (c : List (Sending Request)) (r : Receiving Completion)
     → slice_get parts k ≡ Some p → slice_get columns k ≡ Some c → slice_get receivers k ≡ Some r
-    → AreEnds p.thread (length p.use_async) c r × AreNew c r
+    → AreEnds p.thread (length p.use_async) c r × AreUnused c r
 
 -- manager k has the room of part k and a lane for each of its at most 8 threads in receiver k and in column k, and
 -- nothing was taken from them and sent on them

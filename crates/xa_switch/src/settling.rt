@@ -4,7 +4,7 @@ ghost use Rattle.std.specs.List.{All};
 ghost use Rattle.xa_switch.specs.Settled.{IsSettled, journal};
 ghost use Rattle.xa_switch.specs.Belonging.{desk_seats, worker_seats, ComeFromOpenings, AreOfOne, AreAll};
 ghost use Rattle.xa_switch.specs.Belonging.{IsWhyUnsettled, first_opening};
-ghost use Rattle.xa_switch.specs.Closing.{settling, HasRoomFor};
+ghost use Rattle.xa_switch.specs.Closing.{settling, HasRoomForPieces};
 ghost use Rattle.xa_switch.specs.Fates.{ledgers_of};
 
 mod checks;
@@ -110,8 +110,8 @@ fn close_all<R: Wait>(
     requires whole { AreAll desks.items workers.items }
     requires few_managers { All (λ d. length d.ledgers ≤ MOST_SENDERS) desks.items }
     requires few_threads { All (λ w. w.manager.threads ≤ MOST_SENDERS) workers.items }
-    requires desk_room { HasRoomFor (length desks.items) desk_room }
-    requires worker_room { HasRoomFor (length workers.items) worker_room }
+    requires desk_room { HasRoomForPieces (length desks.items) desk_room }
+    requires worker_room { HasRoomForPieces (length workers.items) worker_room }
     ensures parts { result ≡ settling desks.items workers.items }
     ensures lists { map (λ e. ledgers_of result e.thread) desks.items ≡ map (λ e. e.ledgers) desks.items }
     ensures journals { map (λ w. journal result w.number) workers.items ≡ map (λ w. w.journal) workers.items }

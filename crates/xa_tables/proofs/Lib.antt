@@ -4,6 +4,7 @@ pub mod AccountLemmas
 pub mod PlaceLemmas
 pub mod Effects
 pub mod Soundness
+pub mod StepLemmas
 pub mod Reopening
 pub mod HeldSums
 pub mod Restoring

@@ -145,6 +145,10 @@ IsGood n a = (pos 0 ≤ℤ a.value) × (a.value ≤ℤ pos MOST_VALUE) × IsSmal
 abbrev pub declared_values : List (List ℕ × ℕ) → FinMap key_cmp ℤ
 declared_values ds = from_entries (map (λ d. (d.0, pos d.1)) ds)
 
+-- a declared key and its value, with nothing added to it
+abbrev pub account_of : List ℕ × ℕ → Account
+account_of d = record { key = d.0; value = pos d.1; hold = None }
+
 -- a place further on, or else here
 abbrev pub later_place : Option ℕ → Bool → Option ℕ
 later_place (Some i) here = Some (suc i)

@@ -167,18 +167,18 @@ is_unfinished f = is_live f || is_in_doubt f
 -- ---- what is added to a key
 
 -- a request that ends its branch: whether it is the committing one
-abbrev pub ending_by : Fate → Option Bool
-ending_by Committed = Some true
-ending_by ReadOnly = Some false
-ending_by RolledBack = Some false
-ending_by HeurCommitted = Some true
-ending_by HeurRolledBack = Some false
-ending_by f = None
+abbrev pub ending_of_fate : Fate → Option Bool
+ending_of_fate Committed = Some true
+ending_of_fate ReadOnly = Some false
+ending_of_fate RolledBack = Some false
+ending_of_fate HeurCommitted = Some true
+ending_of_fate HeurRolledBack = Some false
+ending_of_fate f = None
 
 -- the same, where the request says nothing of the branch: it doesn't end it
 abbrev pub ending : Option Fate → Option Bool
 ending None = None
-ending (Some f) = ending_by f
+ending (Some f) = ending_of_fate f
 
 -- no request of the history ends x
 abbrev pub EndsNowhere : XidName → History → Tables → Type 0

@@ -200,8 +200,8 @@ abbrev pub reason_of : Tables → XidName → Code
 reason_of T x = reason_in (state_of T x)
 
 -- what was decided heuristically on x
-abbrev pub decision_of : Tables → XidName → Code
-decision_of T x = decision_in (state_of T x)
+abbrev pub heuristic_code_of : Tables → XidName → Code
+heuristic_code_of T x = decision_in (state_of T x)
 
 -- "somebody is associated" counts both kinds
 abbrev pub is_somebody_associated : FinMap nat_cmp Association → XidName → Bool

@@ -92,8 +92,16 @@ tables_with_room_code =
     (λ b. (b.tables, (b.threads, (b.seats, (b.spare, b.adds)))))
     (λ p. record { tables = p.0; threads = p.1.0; seats = p.1.1.0; spare = p.1.1.1.0; adds = p.1.1.1.1 }) (λ _. refl)
 
+-- an opening begins with the tables T, for this many threads, with room for this many branches more, and at most so
+-- many additions were made
+pub record BeginsWithTables (T : Tables) (seats most made : ℕ) (b : TablesWithRoom) : Type 0 where
+  pub tables : b.tables ≡ T
+  pub threads : b.threads ≡ seats
+  pub room : most ≤ b.spare
+  pub adds : b.adds ≤ made
+
 -- one request uses up at most so many places, and one addition
-pub record Keeps (places : ℕ) (old new : TablesWithRoom) : Type 0 where
+pub record UsesAtMost (places : ℕ) (old new : TablesWithRoom) : Type 0 where
   pub threads : new.threads ≡ old.threads
   pub spare : old.spare ≤ new.spare + places
   pub adds : new.adds ≤ old.adds + 1
@@ -103,18 +111,18 @@ abbrev pub is_free : Tables → ℕ → Bool
 is_free T t = has_opened T t && not (has_association T t)
 
 -- 1 where it is so
-abbrev pub counted : Bool → ℕ
-counted true = 1
-counted false = 0
+abbrev pub count_if : Bool → ℕ
+count_if true = 1
+count_if false = 0
 
 -- how many of the threads 1 to n are free
 abbrev pub free_threads : ℕ → Tables → ℕ
 free_threads zero T = 0
-free_threads (suc n) T = counted (is_free T (suc n)) + free_threads n T
+free_threads (suc n) T = count_if (is_free T (suc n)) + free_threads n T
 
 -- the places that a request of t takes, which makes U of T: one at most, and only where t becomes associated
 abbrev pub places_taken : ℕ → Tables → Tables → ℕ
-places_taken t T U = counted (not (has_association T t) && has_association U t)
+places_taken t T U = count_if (not (has_association T t) && has_association U t)
 
 -- the branch of each association exists, and is neither prepared nor completed
 abbrev pub AreAssociationsLive : Tables → Type 0

@@ -26,18 +26,18 @@ use Rattle.xa_tables.specs.declared.state.AssociationState.{AssociationState}
 use Rattle.xa_tables.specs.declared.state.AssociationState.TheVariants.{Associated, Suspended}
 use Rattle.xa_tables.specs.ManagerTables.{Tables, has_opened, has_association, is_at_work, is_suspended, is_associated}
 use Rattle.xa_tables.specs.ManagerTables.{branch_of, exists, is_idle, is_prepared, is_rollback_only, reason_of}
-use Rattle.xa_tables.specs.ManagerTables.{is_completed, is_left, decision_of}
+use Rattle.xa_tables.specs.ManagerTables.{is_completed, is_left, heuristic_code_of}
 use Rattle.xa_tables.specs.ManagerTables.{is_somebody_associated, is_declared, sum_of, has_touched, has_other_touched}
 use Rattle.xa_tables.specs.ManagerTables.{is_broken, posted, sums_without}
 
 -- the tables after a request, and its code
-abbrev pub Answer : Type 0
-Answer = Tables × Code
+abbrev pub TablesAndCode : Type 0
+TablesAndCode = Tables × Code
 
 -- ---- before all others
 
 -- a manager that is shut answers XAER_RMFAIL, and nothing changes
-abbrev pub unless_shut : Tables → Answer → Answer
+abbrev pub unless_shut : Tables → TablesAndCode → TablesAndCode
 unless_shut T answer = if T.shut then (T, RmFail) else answer
 
 -- what a thread that hasn't opened may not ask (C193, table 6-1)
@@ -48,7 +48,7 @@ needs_opening CloseRm = false
 needs_opening (Heur x commits) = false
 needs_opening op = true
 
-abbrev pub if_opened : ℕ → Op → Tables → Answer → Answer
+abbrev pub if_opened : ℕ → Op → Tables → TablesAndCode → TablesAndCode
 if_opened t op T answer = if needs_opening op && not (has_opened T t) then (T, Proto) else answer
 
 -- ---- what a rule changes
@@ -90,8 +90,8 @@ abbrev pub forgotten : XidName → Tables → Tables
 forgotten x T = record T { states = map.remove T.states x }
 
 -- x is S5 with this decision, and has no sums and no touched keys
-abbrev pub completed : XidName → HeuristicDecision → Tables → Tables
-completed x d T = stated x (HeuristicallyCompleted d) (record T { sums = sums_without T.sums x })
+abbrev pub completed_heuristically : XidName → HeuristicDecision → Tables → Tables
+completed_heuristically x d T = stated x (HeuristicallyCompleted d) (record T { sums = sums_without T.sums x })
 
 -- each sum of x is added to its key's value
 abbrev pub committed : XidName → Tables → Tables
@@ -106,13 +106,13 @@ shut_down T = record T { shut = true }
 -- ---- OpenRm (xa_open; C193, table 6-1)
 
 -- t has it open, also where it had
-abbrev pub open_rm : ℕ → Tables → Answer
+abbrev pub open_rm : ℕ → Tables → TablesAndCode
 open_rm t T = (record T { opened = set.insert T.opened t }, Done)
 
 -- ---- CloseRm (xa_close; C193, table 6-1)
 
 -- a thread with an association can't close
-abbrev pub close_rm : ℕ → Tables → Answer
+abbrev pub close_rm : ℕ → Tables → TablesAndCode
 close_rm t T =
     if not (has_opened T t) then (T, Done)
     else if has_association T t then (T, Proto)
@@ -121,14 +121,14 @@ close_rm t T =
 -- ---- Start (xa_start; C193, tables 6-2 and 6-4)
 
 -- with no flag
-abbrev pub start_fresh : ℕ → XidName → Tables → Answer
+abbrev pub start_fresh : ℕ → XidName → Tables → TablesAndCode
 start_fresh t x T =
     if has_association T t then (T, Proto)
     else if exists T x then (T, DupId)
     else (associated t x (stated x Active T), Done)
 
 -- TMJOIN
-abbrev pub start_join : ℕ → XidName → Tables → Answer
+abbrev pub start_join : ℕ → XidName → Tables → TablesAndCode
 start_join t x T =
     if has_association T t then (T, Proto)
     else if not (exists T x) then (T, Nota)
@@ -137,14 +137,14 @@ start_join t x T =
     else (associated t x (stated x Active T), Done)
 
 -- TMRESUME: the state of x stays, in S4 too
-abbrev pub start_resume : ℕ → XidName → Tables → Answer
+abbrev pub start_resume : ℕ → XidName → Tables → TablesAndCode
 start_resume t x T =
     if is_associated T t x && is_suspended T t then (associated t x T, Done)
     else if not (exists T x) then (T, Nota)
     else (T, Proto)
 
 -- by the flag
-abbrev pub start : StartHow → ℕ → XidName → Tables → Answer
+abbrev pub start : StartHow → ℕ → XidName → Tables → TablesAndCode
 start Fresh t x T = start_fresh t x T
 start Join t x T = start_join t x T
 start Resume t x T = start_resume t x T
@@ -152,7 +152,7 @@ start Resume t x T = start_resume t x T
 -- ---- Add (this project's own, native)
 
 -- work of the branch that t is associated with
-abbrev pub add : ℕ → List ℕ → ℤ → Tables → Answer
+abbrev pub add : ℕ → List ℕ → ℤ → Tables → TablesAndCode
 add t k d T =
     if not (is_at_work T t) then (T, Proto)
     else if not (is_declared T k) then (T, Inval)
@@ -174,7 +174,7 @@ is_fail Fail = true
 is_fail how = false
 
 -- with TMSUCCESS x becomes S2 where nobody else is associated with it
-abbrev pub end : EndHow → ℕ → XidName → Tables → Answer
+abbrev pub end : EndHow → ℕ → XidName → Tables → TablesAndCode
 end how t x T =
     if not (is_associated T t x) && not (exists T x) then (T, Nota)
     else if not (is_associated T t x) then (T, Proto)
@@ -188,7 +188,7 @@ end how t x T =
 -- ---- Prepare (xa_prepare; C193, table 6-4)
 
 -- x votes: read only where it touched no key, refused where a value would leave the limits, else prepared
-abbrev pub prepare : XidName → Tables → Answer
+abbrev pub prepare : XidName → Tables → TablesAndCode
 prepare x T =
     if not (exists T x) then (T, Nota)
     else if is_somebody_associated T.associations x || (is_prepared T x || (is_rollback_only T x || is_completed T x))
@@ -200,15 +200,15 @@ prepare x T =
 -- ---- Commit (xa_commit; C193, table 6-4)
 
 -- two phases
-abbrev pub commit_two : XidName → Tables → Answer
+abbrev pub commit_two : XidName → Tables → TablesAndCode
 commit_two x T =
     if not (exists T x) then (T, Nota)
-    else if is_completed T x then (T, decision_of T x)
+    else if is_completed T x then (T, heuristic_code_of T x)
     else if is_somebody_associated T.associations x || not (is_prepared T x) then (T, Proto)
     else (gone x (committed x T), Done)
 
 -- TMONEPHASE
-abbrev pub commit_one : XidName → Tables → Answer
+abbrev pub commit_one : XidName → Tables → TablesAndCode
 commit_one x T =
     if not (exists T x) then (T, Nota)
     else if is_somebody_associated T.associations x || not (is_idle T x) then (T, Proto)
@@ -218,10 +218,10 @@ commit_one x T =
 -- ---- Rollback (xa_rollback; C193, table 6-4)
 
 -- S4's reason is told, and S5's decision
-abbrev pub rollback : XidName → Tables → Answer
+abbrev pub rollback : XidName → Tables → TablesAndCode
 rollback x T =
     if not (exists T x) then (T, Nota)
-    else if is_completed T x then (T, decision_of T x)
+    else if is_completed T x then (T, heuristic_code_of T x)
     else if is_somebody_associated T.associations x then (T, Proto)
     else if is_rollback_only T x then (gone x T, reason_of T x)
     else (gone x T, Done)
@@ -229,17 +229,17 @@ rollback x T =
 -- ---- Heur (this project's own, native): the thread needn't have it open
 
 -- a prepared branch is decided by itself
-abbrev pub heur : XidName → Bool → Tables → Answer
+abbrev pub heur : XidName → Bool → Tables → TablesAndCode
 heur x commits T =
     if not (exists T x) then (T, Nota)
     else if not (is_prepared T x) then (T, Proto)
-    else if commits then (completed x decision.Commit (committed x T), Done)
-    else (completed x decision.Rollback T, Done)
+    else if commits then (completed_heuristically x decision.Commit (committed x T), Done)
+    else (completed_heuristically x decision.Rollback T, Done)
 
 -- ---- Forget (xa_forget; C193, table 6-4)
 
 -- a heuristic decision that is known is forgotten
-abbrev pub forget : XidName → Tables → Answer
+abbrev pub forget : XidName → Tables → TablesAndCode
 forget x T =
     if not (exists T x) then (T, Nota)
     else if not (is_completed T x) then (T, Proto)
@@ -248,13 +248,13 @@ forget x T =
 -- ---- Listed (this project's own; what xa_recover asks): it changes nothing
 
 -- of no branch, whether the manager answers; of x, whether it is left
-abbrev pub listed : Option XidName → Tables → Answer
+abbrev pub listed : Option XidName → Tables → TablesAndCode
 listed None T = (T, Done)
 listed (Some x) T = if is_left T x then (T, Done) else (T, Nota)
 
 -- ---- all groups
 
-abbrev pub by_rules : ℕ → Op → Tables → Answer
+abbrev pub by_rules : ℕ → Op → Tables → TablesAndCode
 by_rules t Shut T = (shut_down T, Done)
 by_rules t OpenRm T = open_rm t T
 by_rules t CloseRm T = close_rm t T
@@ -269,5 +269,5 @@ by_rules t (Heur x commits) T = heur x commits T
 by_rules t (Listed x) T = listed x T
 
 -- one request
-unfoldable pub next : ℕ → Op → Tables → Answer
+unfoldable pub next : ℕ → Op → Tables → TablesAndCode
 next t op T = unless_shut T (if_opened t op T (by_rules t op T))

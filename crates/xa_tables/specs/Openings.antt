@@ -64,13 +64,13 @@ abbrev pub reopened_fate : Fate → Fate
 reopened_fate f = if is_live f then RolledBack else f
 
 -- what an opening's first tables tell of a branch in this state
-abbrev pub told_by : Option State → Fate
-told_by None = Absent
-told_by (Some Active) = Live
-told_by (Some Idle) = Live
-told_by (Some Prepared) = InDoubt
-told_by (Some (RollbackOnly reason)) = Live
-told_by (Some (HeuristicallyCompleted decision)) = decided_fate decision
+abbrev pub fate_of_state : Option State → Fate
+fate_of_state None = Absent
+fate_of_state (Some Active) = Live
+fate_of_state (Some Idle) = Live
+fate_of_state (Some Prepared) = InDoubt
+fate_of_state (Some (RollbackOnly reason)) = Live
+fate_of_state (Some (HeuristicallyCompleted decision)) = decided_fate decision
 
 -- the fate of x as the next opening begins, where it was f as the first of these began
 abbrev pub fate_left : XidName → Fate → List History → Tables → Fate

@@ -15,7 +15,7 @@ use Rattle.xa_tables.specs.declared.state.State.TheVariants.{Prepared, Heuristic
 use Rattle.xa_tables.specs.declared.state.HeuristicDecision.{HeuristicDecision}
 use Rattle.xa_tables.specs.ManagerTables.{Tables, state_of, is_somebody_associated}
 use Rattle.xa_tables.specs.Reasons.{decision_code}
-use Rattle.xa_tables.specs.Next.{Answer, next}
+use Rattle.xa_tables.specs.Next.{TablesAndCode, next}
 use Rattle.xa_tables.specs.Histories.{History, Fate, is_shut, coded, tables_after, fates_in, decided_fate}
 
 -- the request names the branch; one that only asks whether it is left doesn't
@@ -110,6 +110,6 @@ pub record AwaitsAfter (t : ℕ) (x : XidName) (g : History) (T : Tables) : Type
   pub awaits : AwaitsTheOutcome t x decision (tables_after g T)
 
 -- a request with the answer `a` was told the heuristic decision d: the branch is completed with it, and nothing changed
-pub record IsTold (x : XidName) (d : HeuristicDecision) (T : Tables) (a : Answer) : Type 0 where
+pub record IsToldDecision (x : XidName) (d : HeuristicDecision) (T : Tables) (a : TablesAndCode) : Type 0 where
   pub state : state_of T x ≡ Some (HeuristicallyCompleted d)
   pub unchanged : a.0 ≡ T

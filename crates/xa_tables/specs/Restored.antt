@@ -1,5 +1,6 @@
 -- A manager that is restored from what its store has: the tables that it begins with, or the first reason against it.
 use Rattle.std.specs.Prelude.{◌≡◌, ℕ, ℤ, pos, ◌+ℤ◌, Bool, true, not, if◌then◌else◌, Option, None, Some, is_some}
+use Rattle.std.specs.Prelude.{Result, Ok, Err}
 use Rattle.std.specs.Prelude.{option_map, unwrap_or, List, [], ◌∷◌, ◌++◌, map}
 use Rattle.std.specs.List.{IsDistinct, list_any}
 use Rattle.std.specs.Map.{keys_of, lookup}
@@ -40,6 +41,11 @@ restored s =
 
 -- ---- the first reason why a manager isn't restored: the accounts are looked at first, then the branches in their
 -- order, and then the sums in theirs
+
+-- the fault for which something was refused
+abbrev pub fault_in : {A : Type 0} → Result A RestoreFault → Option RestoreFault
+fault_in (Ok a) = None
+fault_in (Err fault) = Some fault
 
 -- the first fault of these items, each of which is looked at beside those before it
 abbrev pub first_fault : {A : Type 0} → (List A → A → Option RestoreFault) → List A → List A → Option RestoreFault

@@ -1,6 +1,6 @@
 //! The declared keys: their committed values, and what branches have added.
 ghost use Rattle.std.specs.Prelude.{◌≡◌, ◌≢◌, ◌+◌, ◌<◌, ◌≤◌, ◌^◌, ◌+ℤ◌, ◌≤ℤ◌, ◌++◌, ℕ, Bool, List, [], IfOk, IfSome};
-ghost use Rattle.std.specs.Prelude.{is_some, true, false};
+ghost use Rattle.std.specs.Prelude.{if◌then◌else◌, is_some, true, false};
 ghost use Rattle.std.specs.Prelude.{option_map, map, filter, filter_map, length, nat_le, pos, vec_len, vec_capacity};
 ghost use Rattle.std.specs.List.{IsDistinct, cons_option, list_any, list_all};
 ghost use Rattle.std.specs.Map.{keys_of, lookup};
@@ -11,10 +11,12 @@ ghost use Rattle.xa_words.specs.Key.{key_eq};
 ghost use Rattle.xa_words.specs.Xid.{XidName};
 ghost use Rattle.xa_tables.specs.Accounts.{declared_values, is_held_by, is_held_by_other};
 ghost use Rattle.xa_words.specs.Accounts.{are_accounts, are_apart};
-ghost use Rattle.xa_tables.specs.Accounts.{is_broken_by, IsGood, added_to, posted_by, kept_where, key_at};
+ghost use Rattle.xa_tables.specs.Accounts.{is_broken_by, AreIndexed, IsGood, account_of, added_to, posted_by};
+ghost use Rattle.xa_tables.specs.Accounts.{kept_where, key_at};
 ghost use Rattle.xa_tables.specs.Held.{AreHeld, is_held, is_held_at, noted, own_sum, sum_at};
 ghost use Rattle.xa_tables.specs.ManagerTables.{is_within, sum_of, value_of, has_touched, has_other_touched};
 ghost use Rattle.xa_tables.specs.ManagerTables.{is_touched, is_broken, posted, sums_without, is_S3};
+ghost use Rattle.xa_tables.specs.Steps.{closing_vote};
 
 use crate::branches::Branches;
 use crate::places::Places;
@@ -22,7 +24,7 @@ use crate::state::State;
 use std::alloc::{AllocError, Global};
 use std::marker::Model;
 use xa_base::{MOST_KEYS, MOST_VALUE};
-use xa_words::{Delta, Key, Xid};
+use xa_words::{Code, Delta, Key, Xid};
 
 /// What a branch has added to a key.
 #[derive(Clone, Copy)]
@@ -68,24 +70,15 @@ impl Model for Accounts {
 
 impl Accounts {
     /// The keys with their values at the opening; no branch has touched them.
-    #[tactic(auto, using(crate::proofs::PlaceLemmas::as_declared))]
     pub(crate) fn new(alloc: Global, declared: &[(Key, u64)]) -> Result<Accounts, AllocError>
         requires { are_accounts declared.now ≡ true }
-        ensures sums { IfOk result (λ a. a.sums ≡ finmap.empty) }
-        ensures values { IfOk result (λ a. a.values ≡ declared_values declared.now) }
-        ensures adds { IfOk result (λ a. a.adds ≡ 0) }
+        ensures { IfOk result (λ a. (a.sums ≡ finmap.empty) × (a.values ≡ declared_values declared.now)
+            × (a.adds ≡ 0)) }
     {
         let mut accounts = Vec::with_capacity(alloc, declared.len())?;
         let mut places = Places::new(alloc, declared.len())?;
         let held = Vec::with_capacity(alloc, declared.len())?;
-        for (place, (key, value)) in declared.iter().enumerate() {
-            accounts.push(Account {
-                key: *key,
-                value: signed(*value),
-                hold: None,
-            })?;
-            places.put(*key, place);
-        }
+        declare(&mut accounts, &mut places, declared);
         Ok(Accounts {
             accounts,
             places,
@@ -174,6 +167,20 @@ impl Accounts {
         })
     }
 
+    /// The code with which its vote closes the branch, and `None` where it becomes prepared.
+    #[inline(always)]
+    pub(crate) fn closing_vote(&self, xid: &Xid) -> Option<Code>
+        ensures { result ≡ closing_vote self.now.values self.now.sums xid.now }
+    {
+        if !self.has_touched(xid) {
+            return Some(Code::RdOnly);
+        }
+        if self.is_broken(xid) {
+            return Some(Code::RbIntegrity);
+        }
+        None
+    }
+
     /// Adds to the branch's sum at the key at a place.
     #[tactic(auto, using(crate::proofs::PlaceLemmas::keys_there))]
     #[inline(always)]
@@ -237,6 +244,24 @@ impl Accounts {
         keep_held(&mut self.held, &self.accounts);
     }
 
+    /// Adds the branch's sums to the values, or doesn't; the branch has touched no key any more.
+    #[inline(always)]
+    pub(crate) fn settle(&mut self, xid: &Xid, commits: bool)
+        requires { commits ≡ true → is_broken self.old.values self.old.sums xid.now ≡ false }
+        ensures values { self.new.values
+            ≡ (if commits then posted self.old.values self.old.sums xid.now else self.old.values) }
+        ensures sums { self.new.sums ≡ sums_without self.old.sums xid.now }
+        ensures adds { self.new.adds ≡ self.old.adds }
+        ensures others { (y : XidName) → y ≢ xid.now → is_broken self.new.values self.new.sums y
+            ≡ is_broken self.old.values self.old.sums y }
+    {
+        if commits {
+            self.post(xid);
+        } else {
+            self.forget(xid);
+        }
+    }
+
     /// Leaves the values as they are; only prepared branches have touched a key any more.
     #[tactic(auto, using(crate::proofs::PlaceLemmas::held_alike))]
     pub(crate) fn retain_prepared(&mut self, branches: &Branches)
@@ -287,6 +312,27 @@ fn has_key(declared: &[(Key, u64)], key: &Key) -> bool
     ensures { result ≡ list_any (λ d. key_eq d.0 key.now) declared.now }
 {
     declared.iter().any(|(own, _)| own == key)
+}
+
+// Puts the keys there with their values, and the place of each.
+#[tactic(auto, using(crate::proofs::PlaceLemmas::limit_declared))]
+fn declare(accounts: &mut Vec<Account>, places: &mut Places, declared: &[(Key, u64)])
+    requires declared { are_accounts declared.now ≡ true }
+    requires none { accounts.old.items ≡ [] }
+    requires room { length declared.now ≤ vec_capacity accounts.old }
+    requires nowhere { places.old.places ≡ finmap.empty }
+    requires spare { length declared.now ≤ places.old.spare }
+    ensures accounts { accounts.new.items ≡ map account_of declared.now }
+    ensures places { AreIndexed places.new.places accounts.new.items }
+{
+    for (place, (key, value)) in declared.iter().enumerate() {
+        accounts.push_reserved(Account {
+            key: *key,
+            value: signed(*value),
+            hold: None,
+        });
+        places.put(*key, place);
+    }
 }
 
 // A declared value as an account keeps it.

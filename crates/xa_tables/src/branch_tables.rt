@@ -1,22 +1,23 @@
 //! The tables of a manager, a group of rules at a time.
 ghost use Rattle.std.specs.Prelude.{◌≡◌, ◌≤◌, ◌<◌, ◌^◌, ℕ, List, IfOk, OnOk, IfSome, true, false, option_map, pos};
-ghost use Rattle.std.specs.Prelude.{vec_capacity};
+ghost use Rattle.std.specs.Prelude.{◌&&◌, option_copied, vec_capacity};
 ghost use Rattle.std.specs.List.{IsDistinct};
 ghost use Rattle.std.specs.Map.{keys_of, lookup};
 ghost use Rattle.std.specs.FinMap as finmap;
 ghost use Rattle.xa_tables.specs.Next.{shut_down, open_rm, close_rm, start_fresh, start_join};
 ghost use Rattle.xa_tables.specs.Next.{start_resume, add, end, prepare, commit_one, commit_two, rollback, heur, forget};
 ghost use Rattle.xa_tables.specs.Next.{listed, gone};
-ghost use Rattle.xa_tables.specs.ManagerTables.{has_opened, state_of};
+ghost use Rattle.xa_tables.specs.ManagerTables.{has_opened, is_T2, is_association_with, state_of};
 ghost use Rattle.xa_words.specs.Accounts.{are_accounts};
 ghost use Rattle.xa_words.specs.Key.{key_eq};
-ghost use Rattle.xa_tables.specs.Managers.{AreAssociationsLive, ArePreparedSound, Keeps, opening, places_taken};
-ghost use Rattle.xa_tables.specs.Managers.{tables_of};
+ghost use Rattle.xa_tables.specs.Managers.{AreAssociationsLive, ArePreparedSound, BeginsWithTables, UsesAtMost};
+ghost use Rattle.xa_tables.specs.Managers.{opening, places_taken, tables_of};
 ghost use Rattle.xa_tables.specs.Openings.{AreLeft, reopened};
+ghost use Rattle.xa_tables.specs.Steps.{ended, refusal, state_with, suspends_again};
 
 use crate::accounts::Accounts;
 use crate::branches::Branches;
-use crate::state::{AssociationState, HeuristicDecision, RollbackReason, State};
+use crate::state::{Association, AssociationState, HeuristicDecision, RollbackReason, State};
 use crate::threads::Threads;
 use std::alloc::{AllocError, Global};
 use std::marker::Model;
@@ -61,10 +62,7 @@ impl BranchTables {
         room: usize,
     ) -> Result<BranchTables, AllocError>
         requires { are_accounts accounts.now ≡ true }
-        ensures tables { IfOk result (λ b. b.tables ≡ opening accounts.now) }
-        ensures threads { IfOk result (λ b. b.threads ≡ threads) }
-        ensures room { IfOk result (λ b. room ≤ b.spare) }
-        ensures adds { IfOk result (λ b. b.adds ≡ 0) }
+        ensures { IfOk result (λ b. BeginsWithTables (opening accounts.now) threads room 0 b) }
     {
         Ok(BranchTables {
             threads: Threads::new(alloc, threads)?,
@@ -125,7 +123,7 @@ impl BranchTables {
     /// Shut: nothing is carried out any more.
     pub(crate) fn shut(&mut self)
         ensures shut { self.new.tables ≡ shut_down self.old.tables }
-        ensures kept { Keeps 0 self.old self.new }
+        ensures kept { UsesAtMost 0 self.old self.new }
     {
         self.is_shut = true;
     }
@@ -144,7 +142,7 @@ impl BranchTables {
         requires first { 0 < t }
         requires last { t ≤ self.old.threads }
         ensures step { (self.new.tables, result) ≡ open_rm t self.old.tables }
-        ensures kept { Keeps 0 self.old self.new }
+        ensures kept { UsesAtMost 0 self.old self.new }
     {
         self.threads.set_open(t, true);
         Code::Done
@@ -155,7 +153,7 @@ impl BranchTables {
         requires first { 0 < t }
         requires last { t ≤ self.old.threads }
         ensures step { (self.new.tables, result) ≡ close_rm t self.old.tables }
-        ensures kept { Keeps 0 self.old self.new }
+        ensures kept { UsesAtMost 0 self.old self.new }
     {
         if !self.threads.has_opened(t) {
             return Code::Done;
@@ -168,13 +166,12 @@ impl BranchTables {
     }
 
     /// `xa_start` with no flag: the branch is new.
-    #[tactic(auto, using(crate::proofs::SoundLemmas::state_rules))]
     pub(crate) fn start_fresh(&mut self, t: usize, xid: &Xid) -> Code
         requires first { 0 < t }
         requires last { t ≤ self.old.threads }
         requires room { 0 < self.old.spare }
         ensures step { (self.new.tables, result) ≡ start_fresh t xid.now self.old.tables }
-        ensures kept { Keeps (places_taken t self.old.tables self.new.tables) self.old self.new }
+        ensures kept { UsesAtMost (places_taken t self.old.tables self.new.tables) self.old self.new }
     {
         if self.threads.association(t).is_some() {
             return Code::Proto;
@@ -188,12 +185,11 @@ impl BranchTables {
     }
 
     /// `xa_start` with TMJOIN.
-    #[tactic(auto, using(crate::proofs::SoundLemmas::state_rules))]
     pub(crate) fn start_join(&mut self, t: usize, xid: &Xid) -> Code
         requires first { 0 < t }
         requires last { t ≤ self.old.threads }
         ensures step { (self.new.tables, result) ≡ start_join t xid.now self.old.tables }
-        ensures kept { Keeps 0 self.old self.new }
+        ensures kept { UsesAtMost 0 self.old self.new }
     {
         if self.threads.association(t).is_some() {
             return Code::Proto;
@@ -201,15 +197,15 @@ impl BranchTables {
         let Some(state) = self.branches.state_mut(xid) else {
             return Code::Nota;
         };
-        match *state {
-            State::Prepared | State::HeuristicallyCompleted(_) => Code::Proto,
-            State::RollbackOnly(reason) => reason.code(),
-            State::Active | State::Idle => {
-                *state = State::Active;
-                self.threads.associate(t, xid, AssociationState::Associated);
-                Code::Done
-            }
+        if state.is_left() {
+            return Code::Proto;
         }
+        if let State::RollbackOnly(reason) = *state {
+            return reason.code();
+        }
+        *state = State::Active;
+        self.threads.associate(t, xid, AssociationState::Associated);
+        Code::Done
     }
 
     /// `xa_start` with TMRESUME.
@@ -217,18 +213,13 @@ impl BranchTables {
         requires first { 0 < t }
         requires last { t ≤ self.old.threads }
         ensures step { (self.new.tables, result) ≡ start_resume t xid.now self.old.tables }
-        ensures kept { Keeps 0 self.old self.new }
+        ensures kept { UsesAtMost 0 self.old self.new }
     {
-        if let Some(association) = self.threads.association(t) {
-            if association.xid == *xid && association.state.is_suspended() {
-                self.threads.associate(t, xid, AssociationState::Associated);
-                return Code::Done;
-            }
+        if !is_suspended_with(self.threads.association(t), xid) {
+            return refusal(self.branches.get(xid));
         }
-        if self.branches.get(xid).is_none() {
-            return Code::Nota;
-        }
-        Code::Proto
+        self.threads.associate(t, xid, AssociationState::Associated);
+        Code::Done
     }
 
     /// Add: work of the branch that the thread is associated with.
@@ -238,7 +229,7 @@ impl BranchTables {
         requires live { AreAssociationsLive self.old.tables }
         requires few { self.old.adds < 2 ^ 20 }
         ensures step { (self.new.tables, result) ≡ add t key delta self.old.tables }
-        ensures kept { Keeps 0 self.old self.new }
+        ensures kept { UsesAtMost 0 self.old self.new }
     {
         let Some(association) = self.threads.association(t) else {
             return Code::Proto;
@@ -269,83 +260,43 @@ impl BranchTables {
         requires last { t ≤ self.old.threads }
         requires live { AreAssociationsLive self.old.tables }
         ensures step { (self.new.tables, result) ≡ end how t xid.now self.old.tables }
-        ensures kept { Keeps 0 self.old self.new }
+        ensures kept { UsesAtMost 0 self.old self.new }
     {
-        let is_suspended = match self.threads.association(t) {
-            Some(association) if association.xid == *xid => association.state.is_suspended(),
-            _ => {
-                return match self.branches.get(xid) {
-                    Some(_) => Code::Proto,
-                    None => Code::Nota,
-                };
-            }
+        let Some(association) = state_with(self.threads.association(t), xid) else {
+            return refusal(self.branches.get(xid));
         };
-        if how == EndHow::Suspend && is_suspended {
+        if suspends_again(how, association) {
             return Code::Proto;
         }
         let Some(state) = self.branches.state_mut(xid) else {
             unreachable!()
         };
-        if let State::RollbackOnly(reason) = *state {
-            self.threads.dissociate(t);
-            return reason.code();
-        }
-        match how {
-            EndHow::Suspend => {
-                self.threads.associate(t, xid, AssociationState::Suspended);
-                Code::Done
-            }
-            EndHow::Fail => {
-                self.threads.dissociate(t);
-                *state = State::RollbackOnly(RollbackReason::Failed);
-                Code::RbRollback
-            }
-            EndHow::Success => {
-                self.threads.dissociate(t);
-                if self.threads.is_somebody_associated(xid) {
-                    return Code::Done;
-                }
-                *state = State::Idle;
-                Code::Done
-            }
-        }
+        end_work(&mut self.threads, state, t, xid, how)
     }
 
     /// `xa_prepare`.
-    #[tactic(auto, using(crate::proofs::SoundLemmas::state_rules))]
     pub(crate) fn prepare(&mut self, xid: &Xid) -> Code
         ensures step { (self.new.tables, result) ≡ prepare xid.now self.old.tables }
-        ensures kept { Keeps 0 self.old self.new }
+        ensures kept { UsesAtMost 0 self.old self.new }
     {
         let Some(state) = self.branches.state_mut(xid) else {
             return Code::Nota;
         };
-        if self.threads.is_somebody_associated(xid) {
+        if self.threads.is_somebody_associated(xid) || !state.may_prepare() {
             return Code::Proto;
         }
-        if let State::Prepared
-        | State::RollbackOnly(_)
-        | State::HeuristicallyCompleted(_) = *state
-        {
-            return Code::Proto;
-        }
-        if !self.accounts.has_touched(xid) {
+        if let Some(code) = self.accounts.closing_vote(xid) {
             self.remove(xid);
-            return Code::RdOnly;
-        }
-        if self.accounts.is_broken(xid) {
-            self.remove(xid);
-            return Code::RbIntegrity;
+            return code;
         }
         *state = State::Prepared;
         Code::Done
     }
 
     /// `xa_commit` with no flag: two phases.
-    #[tactic(auto, using(crate::proofs::SoundLemmas::state_rules))]
     pub(crate) fn commit_two(&mut self, xid: &Xid) -> Code
         ensures step { (self.new.tables, result) ≡ commit_two xid.now self.old.tables }
-        ensures kept { Keeps 0 self.old self.new }
+        ensures kept { UsesAtMost 0 self.old self.new }
     {
         let Some(state) = self.branches.get(xid) else {
             return Code::Nota;
@@ -353,7 +304,7 @@ impl BranchTables {
         if let State::HeuristicallyCompleted(decision) = state {
             return decision.code();
         }
-        if self.threads.is_somebody_associated(xid) || state != State::Prepared {
+        if self.threads.is_somebody_associated(xid) || !state.is_prepared() {
             return Code::Proto;
         }
         self.accounts.post(xid);
@@ -362,10 +313,9 @@ impl BranchTables {
     }
 
     /// `xa_commit` with TMONEPHASE.
-    #[tactic(auto, using(crate::proofs::SoundLemmas::state_rules))]
     pub(crate) fn commit_one(&mut self, xid: &Xid) -> Code
         ensures step { (self.new.tables, result) ≡ commit_one xid.now self.old.tables }
-        ensures kept { Keeps 0 self.old self.new }
+        ensures kept { UsesAtMost 0 self.old self.new }
     {
         let Some(state) = self.branches.get(xid) else {
             return Code::Nota;
@@ -385,7 +335,7 @@ impl BranchTables {
     /// `xa_rollback`.
     pub(crate) fn rollback(&mut self, xid: &Xid) -> Code
         ensures step { (self.new.tables, result) ≡ rollback xid.now self.old.tables }
-        ensures kept { Keeps 0 self.old self.new }
+        ensures kept { UsesAtMost 0 self.old self.new }
     {
         let Some(state) = self.branches.get(xid) else {
             return Code::Nota;
@@ -404,32 +354,25 @@ impl BranchTables {
     }
 
     /// A heuristic decision on a prepared branch.
-    #[tactic(auto, using(crate::proofs::SoundLemmas::state_rules))]
     pub(crate) fn heur(&mut self, xid: &Xid, commits: bool) -> Code
         ensures step { (self.new.tables, result) ≡ heur xid.now commits self.old.tables }
-        ensures kept { Keeps 0 self.old self.new }
+        ensures kept { UsesAtMost 0 self.old self.new }
     {
         let Some(state) = self.branches.state_mut(xid) else {
             return Code::Nota;
         };
-        if *state != State::Prepared {
+        if !state.is_prepared() {
             return Code::Proto;
         }
-        if commits {
-            self.accounts.post(xid);
-            *state = State::HeuristicallyCompleted(HeuristicDecision::Commit);
-            return Code::Done;
-        }
-        self.accounts.forget(xid);
-        *state = State::HeuristicallyCompleted(HeuristicDecision::Rollback);
+        self.accounts.settle(xid, commits);
+        *state = State::HeuristicallyCompleted(HeuristicDecision::of(commits));
         Code::Done
     }
 
     /// `xa_forget`.
-    #[tactic(auto, using(crate::proofs::SoundLemmas::state_rules))]
     pub(crate) fn forget(&mut self, xid: &Xid) -> Code
         ensures step { (self.new.tables, result) ≡ forget xid.now self.old.tables }
-        ensures kept { Keeps 0 self.old self.new }
+        ensures kept { UsesAtMost 0 self.old self.new }
     {
         let Some(state) = self.branches.get(xid) else {
             return Code::Nota;
@@ -489,12 +432,89 @@ impl BranchTables {
     }
 
     // The branch is gone, with its sums.
-    #[tactic(auto, using(crate::proofs::SoundLemmas::state_rules))]
     fn remove(&mut self, xid: &Xid)
         ensures gone { self.new.tables ≡ gone xid.now self.old.tables }
-        ensures kept { Keeps 0 self.old self.new }
+        ensures kept { UsesAtMost 0 self.old self.new }
     {
         self.accounts.forget(xid);
         self.branches.remove(xid);
+    }
+}
+
+// What a thread is answered that may not do what it asks of a branch in this state, or of none.
+#[inline(always)]
+fn refusal(state: Option<State>) -> Code
+    ensures { result ≡ refusal state }
+{
+    match state {
+        Some(_) => Code::Proto,
+        None => Code::Nota,
+    }
+}
+
+// How the association is with the branch, if there is one and it is.
+#[inline(always)]
+fn state_with(association: Option<&Association>, xid: &Xid) -> Option<AssociationState>
+    ensures { result ≡ state_with (option_copied association.entry) xid.now }
+{
+    if let Some(association) = association {
+        if association.xid == *xid {
+            return Some(association.state);
+        }
+    }
+    None
+}
+
+// Whether the association is with the branch, and suspended.
+#[inline(always)]
+fn is_suspended_with(association: Option<&Association>, xid: &Xid) -> bool
+    ensures { result ≡ (is_association_with (option_copied association.entry) xid.now
+        && is_T2 (option_copied association.entry)) }
+{
+    match association {
+        Some(association) => association.xid == *xid && association.state.is_suspended(),
+        None => false,
+    }
+}
+
+// Whether the thread would suspend an association that is suspended.
+#[inline(always)]
+fn suspends_again(how: EndHow, association: AssociationState) -> bool
+    ensures { result ≡ suspends_again how association }
+{
+    how == EndHow::Suspend && association.is_suspended()
+}
+
+// The thread ends its work on the branch that it is associated with.
+#[inline(always)]
+fn end_work(threads: &mut Threads, state: &mut State, t: usize, xid: &Xid, how: EndHow) -> Code
+    requires first { 0 < t }
+    requires last { t ≤ threads.old.threads }
+    ensures step { (threads.new.associations, state.new, result)
+        ≡ ended how t xid.now threads.old.associations state.old }
+    ensures opened { threads.new.opened ≡ threads.old.opened }
+    ensures threads { threads.new.threads ≡ threads.old.threads }
+{
+    if let State::RollbackOnly(reason) = *state {
+        threads.dissociate(t);
+        return reason.code();
+    }
+    match how {
+        EndHow::Suspend => {
+            threads.associate(t, xid, AssociationState::Suspended);
+            Code::Done
+        }
+        EndHow::Fail => {
+            threads.dissociate(t);
+            *state = State::RollbackOnly(RollbackReason::Failed);
+            Code::RbRollback
+        }
+        EndHow::Success => {
+            threads.dissociate(t);
+            if !threads.is_somebody_associated(xid) {
+                *state = State::Idle;
+            }
+            Code::Done
+        }
     }
 }

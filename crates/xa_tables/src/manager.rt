@@ -8,7 +8,7 @@ ghost use Rattle.xa_words.specs.Accounts.{are_accounts};
 ghost use Rattle.xa_words.specs.Key.{key_eq};
 ghost use Rattle.xa_tables.specs.declared.restored.RestoreFault.TheVariants as restore_fault;
 ghost use Rattle.xa_tables.specs.ManagerTables.{state_of};
-ghost use Rattle.xa_tables.specs.Managers.{AreAssociationsLive, Keeps, opening, places_taken};
+ghost use Rattle.xa_tables.specs.Managers.{AreAssociationsLive, UsesAtMost, opening, places_taken};
 ghost use Rattle.xa_tables.specs.Openings.{AreLeft, IsOpening, reopened};
 ghost use Rattle.xa_tables.specs.Restored.{stored, restored, fault_of};
 ghost use Rattle.xa_tables.specs.Next.{next, needs_opening, by_rules, start};
@@ -274,7 +274,7 @@ fn step(tables: &mut BranchTables, t: usize, op: &Op) -> Code
     requires room { 0 < tables.old.spare }
     requires few { tables.old.adds < 2 ^ 20 }
     ensures step { (tables.new.tables, result) ≡ next t op.now tables.old.tables }
-    ensures kept { Keeps (places_taken t tables.old.tables tables.new.tables) tables.old tables.new }
+    ensures kept { UsesAtMost (places_taken t tables.old.tables tables.new.tables) tables.old tables.new }
 {
     if tables.is_shut() {
         return Code::RmFail;
@@ -297,7 +297,6 @@ fn needs_opening(op: &Op) -> bool
 }
 
 // A request that may be asked, by the rules of its group.
-#[tactic(auto, using(crate::proofs::ThreadLemmas::keeps_more))]
 #[inline(always)]
 fn step_by_rules(tables: &mut BranchTables, t: usize, op: &Op) -> Code
     requires first { 0 < t }
@@ -306,7 +305,7 @@ fn step_by_rules(tables: &mut BranchTables, t: usize, op: &Op) -> Code
     requires room { 0 < tables.old.spare }
     requires few { tables.old.adds < 2 ^ 20 }
     ensures step { (tables.new.tables, result) ≡ by_rules t op.now tables.old.tables }
-    ensures kept { Keeps (places_taken t tables.old.tables tables.new.tables) tables.old tables.new }
+    ensures kept { UsesAtMost (places_taken t tables.old.tables tables.new.tables) tables.old tables.new }
 {
     match op {
         Op::Shut => {
@@ -329,14 +328,13 @@ fn step_by_rules(tables: &mut BranchTables, t: usize, op: &Op) -> Code
 }
 
 // A request to start work on a branch.
-#[tactic(auto, using(crate::proofs::ThreadLemmas::keeps_more))]
 #[inline(always)]
 fn start(tables: &mut BranchTables, t: usize, xid: &Xid, how: StartHow) -> Code
     requires first { 0 < t }
     requires last { t ≤ tables.old.threads }
     requires room { 0 < tables.old.spare }
     ensures step { (tables.new.tables, result) ≡ start how t xid.now tables.old.tables }
-    ensures kept { Keeps (places_taken t tables.old.tables tables.new.tables) tables.old tables.new }
+    ensures kept { UsesAtMost (places_taken t tables.old.tables tables.new.tables) tables.old tables.new }
 {
     match how {
         StartHow::Fresh => tables.start_fresh(t, xid),

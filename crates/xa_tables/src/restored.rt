@@ -1,12 +1,13 @@
 //! What a store has of a manager, and the parts of the tables that it makes.
-ghost use Rattle.std.specs.Prelude.{◌≡◌, ◌≢◌, ◌≤◌, ◌<◌, ◌^◌, [], IfOk, IfErr, OnOk, None, Some, true};
+ghost use Rattle.std.specs.Prelude.{◌≡◌, ◌≢◌, ◌≤◌, ◌<◌, ◌^◌, ◌+◌, [], IfOk, IfErr, OnOk, None, Some, length, true};
 ghost use Rattle.std.specs.FinMap as finmap;
 ghost use Rattle.std.specs.FinMap.{from_entries};
 ghost use Rattle.xa_words.specs.Accounts.{are_accounts};
 ghost use Rattle.xa_tables.specs.declared.restored.RestoreFault.TheVariants.{NoMemory};
-ghost use Rattle.xa_tables.specs.Accounts.{declared_values};
-ghost use Rattle.xa_tables.specs.Restored.{stored, restored, fault_of, sum_entries, first_fault, branch_fault};
-ghost use Rattle.xa_tables.specs.Restored.{fault_beside, sums_fault};
+ghost use Rattle.xa_tables.specs.Accounts.{declared_values, key_at};
+ghost use Rattle.xa_tables.specs.Restored.{restored, stored, fault_of, fault_in, sum_entries, first_fault};
+ghost use Rattle.xa_tables.specs.Managers.{BeginsWithTables};
+ghost use Rattle.xa_tables.specs.Restored.{branch_fault, fault_beside, sums_fault};
 
 use crate::accounts::{Accounts, are_accounts};
 use crate::branch_tables::BranchTables;
@@ -66,10 +67,8 @@ pub(crate) fn restored_tables(
     room: usize,
 ) -> Result<BranchTables, RestoreFault>
     requires { room < 2 ^ 32 }
-    ensures tables { IfOk result (λ b. b.tables ≡ restored (stored accounts.now branches.now sums.now)) }
-    ensures threads { IfOk result (λ b. b.threads ≡ threads) }
-    ensures room { IfOk result (λ b. room ≤ b.spare) }
-    ensures adds { IfOk result (λ b. b.adds ≤ 1) }
+    ensures begins { IfOk result
+        (λ b. BeginsWithTables (restored (stored accounts.now branches.now sums.now)) threads room 1 b) }
     ensures faultless { OnOk result (fault_of (stored accounts.now branches.now sums.now) ≡ None) }
     ensures fault { IfErr result (λ f. f ≢ NoMemory → fault_of (stored accounts.now branches.now sums.now) ≡ Some f) }
 {
@@ -89,12 +88,23 @@ fn left_branches(
     room: usize,
 ) -> Result<Branches, RestoreFault>
     requires { room < 2 ^ 32 }
-    ensures states { IfOk result (λ b. b.states ≡ from_entries left.now) }
-    ensures room { IfOk result (λ b. room ≤ b.spare) }
+    ensures left { IfOk result (λ b. (b.states ≡ from_entries left.now) × (room ≤ b.spare)) }
     ensures faultless { OnOk result (first_fault branch_fault [] left.now ≡ None) }
     ensures fault { IfErr result (λ f. f ≢ NoMemory → first_fault branch_fault [] left.now ≡ Some f) }
 {
     let mut branches = Branches::new(alloc, left.len() + room)?;
+    put_left(&mut branches, left)?;
+    Ok(branches)
+}
+
+// Puts the branches there that were left, up to the first with a fault; there is room for them.
+fn put_left(branches: &mut Branches, left: &[(Xid, State)]) -> Result<(), RestoreFault>
+    requires none { branches.old.states ≡ finmap.empty }
+    requires room { length left.now ≤ branches.old.spare }
+    ensures states { OnOk result (branches.new.states ≡ from_entries left.now) }
+    ensures room { OnOk result (branches.old.spare ≤ branches.new.spare + length left.now) }
+    ensures fault { first_fault branch_fault [] left.now ≡ fault_in result }
+{
     for (xid, state) in left {
         if branches.get(xid).is_some() {
             return Err(RestoreFault::BranchTwice);
@@ -104,7 +114,7 @@ fn left_branches(
         }
         branches.insert(xid, *state);
     }
-    Ok(branches)
+    Ok(())
 }
 
 // The accounts, with what these branches have added to them.
@@ -115,31 +125,38 @@ fn held_accounts(
     branches: &Branches,
 ) -> Result<Accounts, RestoreFault>
     requires { are_accounts declared.now ≡ true }
-    ensures sums { IfOk result (λ a. a.sums ≡ from_entries (sum_entries sums.now)) }
-    ensures values { IfOk result (λ a. a.values ≡ declared_values declared.now) }
-    ensures adds { IfOk result (λ a. a.adds ≤ 1) }
+    ensures held { IfOk result (λ a. (a.sums ≡ from_entries (sum_entries sums.now))
+        × (a.values ≡ declared_values declared.now) × (a.adds ≤ 1)) }
     ensures faultless { OnOk result (sums_fault (declared_values declared.now) branches.now.states sums.now ≡ None) }
     ensures fault { IfErr result (λ f. f ≢ NoMemory
         → sums_fault (declared_values declared.now) branches.now.states sums.now ≡ Some f) }
 {
     let mut accounts = Accounts::new(alloc, declared)?;
-    for sum in sums {
-        put_sum(&mut accounts, branches, sum)?;
-    }
+    put_sums(&mut accounts, branches, sums)?;
     Ok(accounts)
 }
 
-// Puts a sum to its account, unless something is wrong with it.
-fn put_sum(accounts: &mut Accounts, branches: &Branches, sum: &Sum) -> Result<(), RestoreFault>
+// Puts the sums to their accounts, up to the first with a fault.
+fn put_sums(accounts: &mut Accounts, branches: &Branches, sums: &[Sum]) -> Result<(), RestoreFault>
+    requires none { accounts.old.sums ≡ finmap.empty }
     requires few { accounts.old.adds ≤ 1 }
-    ensures sums { OnOk result (accounts.new.sums
-        ≡ finmap.insert accounts.old.sums (sum.now.xid, sum.now.key) sum.now.delta) }
-    ensures values { OnOk result (accounts.new.values ≡ accounts.old.values) }
-    ensures adds { OnOk result (accounts.new.adds ≤ 1) }
-    ensures faultless { OnOk result
-        (fault_beside accounts.old.values branches.now.states accounts.old.sums sum.now ≡ None) }
-    ensures fault { IfErr result (λ f.
-        fault_beside accounts.old.values branches.now.states accounts.old.sums sum.now ≡ Some f) }
+    ensures put { OnOk result ((accounts.new.sums ≡ from_entries (sum_entries sums.now))
+        × (accounts.new.values ≡ accounts.old.values) × (accounts.new.adds ≤ 1)) }
+    ensures fault { sums_fault accounts.old.values branches.now.states sums.now ≡ fault_in result }
+{
+    for sum in sums {
+        let place = place_for(accounts, branches, sum)?;
+        accounts.hold(&sum.xid, place, sum.delta);
+    }
+    Ok(())
+}
+
+// The place of a sum's key, unless something is wrong with the sum.
+fn place_for(accounts: &Accounts, branches: &Branches, sum: &Sum) -> Result<usize, RestoreFault>
+    ensures place { IfOk result (λ place. (place < length accounts.now.keys)
+        × (key_at accounts.now place ≡ sum.now.key)) }
+    ensures fault { fault_beside accounts.now.values branches.now.states accounts.now.sums sum.now
+        ≡ fault_in result }
 {
     let Some(place) = accounts.place_of(&sum.key) else {
         return Err(RestoreFault::UnknownKey);
@@ -153,6 +170,5 @@ fn put_sum(accounts: &mut Accounts, branches: &Branches, sum: &Sum) -> Result<()
     if !accounts.fits(place, sum.delta) {
         return Err(RestoreFault::OutOfLimits);
     }
-    accounts.hold(&sum.xid, place, sum.delta);
-    Ok(())
+    Ok(place)
 }

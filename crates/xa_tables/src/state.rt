@@ -1,7 +1,8 @@
 //! What the tables hold of a branch and of a thread.
 ghost use Rattle.std.specs.Prelude.{◌≡◌, Some};
 ghost use Rattle.xa_tables.specs.Reasons.{reason_code, decision_code};
-ghost use Rattle.xa_tables.specs.ManagerTables.{is_suspended_state, is_left_in};
+ghost use Rattle.xa_tables.specs.ManagerTables.{is_S3, is_suspended_state, is_left_in};
+ghost use Rattle.xa_tables.specs.Steps.{decided, may_prepare};
 
 use xa_words::{Code, Xid};
 
@@ -26,6 +27,22 @@ impl State {
         ensures { result ≡ is_left_in (Some self.now) }
     {
         matches!(self, State::Prepared | State::HeuristicallyCompleted(_))
+    }
+
+    /// Whether a branch in this state is prepared.
+    #[inline(always)]
+    pub(crate) fn is_prepared(&self) -> bool
+        ensures { result ≡ is_S3 (Some self.now) }
+    {
+        matches!(self, State::Prepared)
+    }
+
+    /// Whether a branch in this state may be prepared.
+    #[inline(always)]
+    pub(crate) fn may_prepare(&self) -> bool
+        ensures { result ≡ may_prepare self.now }
+    {
+        matches!(self, State::Active | State::Idle)
     }
 }
 
@@ -60,6 +77,18 @@ pub enum HeuristicDecision {
 }
 
 impl HeuristicDecision {
+    /// The decision that commits, or doesn't.
+    #[inline(always)]
+    pub(crate) fn of(commits: bool) -> HeuristicDecision
+        ensures { result ≡ decided commits }
+    {
+        if commits {
+            HeuristicDecision::Commit
+        } else {
+            HeuristicDecision::Rollback
+        }
+    }
+
     /// The code that tells it.
     pub fn code(self) -> Code
         ensures { result ≡ decision_code self }

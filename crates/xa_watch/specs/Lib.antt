@@ -1,3 +1,3 @@
 pub mod Runs
 -- The words of this crate, by its name.
-pub use Runs.{Comes, IsAt, IsBack}
+pub use Runs.{RunComes, IsAtRun, IsBack}

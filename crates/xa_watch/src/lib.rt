@@ -11,6 +11,6 @@ mod run;
 mod watch;
 mod watched;
 
-pub use run::{Run, Stopped, run_watched};
+pub use run::{Stopped, WatchedRun, run_watched};
 pub use watch::Watch;
 pub use watched::Watched;

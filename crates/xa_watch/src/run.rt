@@ -1,6 +1,6 @@
 //! A run in a thread of its own.
 ghost use Rattle.std.specs.Prelude.{IfErr, IfOk};
-ghost use Rattle.xa_watch.specs.Runs.{Comes, IsAt, IsBack};
+ghost use Rattle.xa_watch.specs.Runs.{RunComes, IsAtRun, IsBack};
 
 use crate::watch::{News, Watch};
 use std::marker::PhantomData;
@@ -10,7 +10,7 @@ use std::thread;
 use std::thread::{Promise, PromisedHandle, SpawnError, Threads};
 
 /// What is done once in a thread of its own, with the runtime `R`, and comes to a `D`.
-pub trait Run<R, D>: Drop {
+pub trait WatchedRun<R, D>: Drop {
     /// Where it can be done.
     ghost can_run: { Self → Type 0 };
 
@@ -37,16 +37,16 @@ pub enum Stopped<W> {
 #[derive(Drop)]
 struct DoneOf<R, W: Drop>(Snapshot<W>, PhantomData<R>);
 
-impl<R, W: Run<R, D>, D: Drop> Promise<Result<D, W>> for DoneOf<R, W> {
-    ghost use Rattle.xa_watch.specs.Runs.{Comes};
+impl<R, W: WatchedRun<R, D>, D: Drop> Promise<Result<D, W>> for DoneOf<R, W> {
+    ghost use Rattle.xa_watch.specs.Runs.{RunComes};
 
-    ghost kept_by = { λ p r. Comes W.comes_to p.0.value r };
+    ghost kept_by = { λ p r. RunComes W.comes_to p.0.value r };
 }
 
 // Does the run and tells that it has ended, or gives it back where something was told before.
-fn serve<R: Copy, W: Run<R, D>, D: Drop>(rt: R, watch: Watch, run: W) -> Result<D, W>
+fn serve<R: Copy, W: WatchedRun<R, D>, D: Drop>(rt: R, watch: Watch, run: W) -> Result<D, W>
     requires { W.can_run run }
-    ensures { Comes W.comes_to run result }
+    ensures { RunComes W.comes_to run result }
 {
     if watch.is_told() {
         return Err(run);
@@ -60,12 +60,12 @@ fn serve<R: Copy, W: Run<R, D>, D: Drop>(rt: R, watch: Watch, run: W) -> Result<
 // is done with.
 fn start<
     R: Threads + Wait + Copy + Send + 'static,
-    W: Run<R, D> + Send + 'static,
+    W: WatchedRun<R, D> + Send + 'static,
     D: Drop + Send + 'static,
 >(rt: &R, watch: &Watch, run: W) -> Result<PromisedHandle<Result<D, W>, DoneOf<R, W>>, Result<D, W>>
     requires { W.can_run run }
-    ensures started { IfOk result (IsAt run) }
-    ensures refused { IfErr result (Comes W.comes_to run) }
+    ensures started { IfOk result (IsAtRun run) }
+    ensures refused { IfErr result (RunComes W.comes_to run) }
 {
     let copy = *rt;
     let Some(shared) = watch.share() else {
@@ -74,7 +74,7 @@ fn start<
     let promise = DoneOf(Snapshot::of(&run), PhantomData);
     let work = move ||
         requires { W.can_run run }
-        ensures { Comes W.comes_to run result }
+        ensures { RunComes W.comes_to run result }
     { serve(copy, shared, run) };
     match thread::spawn_with(rt, promise, work) {
         Ok(hand) => Ok(hand),
@@ -92,7 +92,7 @@ fn start<
 /// After a failure nothing more is answered by that store's manager. End the process.
 pub fn run_watched<
     R: Threads + Wait + Copy + Send + 'static,
-    W: Run<R, D> + Send + 'static,
+    W: WatchedRun<R, D> + Send + 'static,
     D: Drop + Send + 'static,
 >(rt: &R, watch: &Watch, run: W) -> Result<D, Stopped<W>>
     requires { W.can_run run }

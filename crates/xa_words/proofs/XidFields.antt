@@ -12,4 +12,9 @@ pub record FieldsAre (g b : ℕ) (bs : List ℕ) (v : XidName) : Type 0 where
 pub fields_are : (f : ℤ) (g b : ℕ) (bs : List ℕ) (v : XidName) → IsPaddedXid g b bs
     → ◌≡◌ {A = XidName} (record { format = f; gtrid = take g bs; bqual = take b (drop g bs) }) v → FieldsAre g b bs v
 fields_are f g b bs v p e =
-    rw (← e) (record { gtrid_len = sym (length_first g b bs p); bqual_len = sym (length_second g b bs p); bytes = sym (bytes_again g b bs p) })
+    rw (← e)
+    (record {
+      gtrid_len = sym (length_first g b bs p);
+      bqual_len = sym (length_second g b bs p);
+      bytes = sym (bytes_again g b bs p);
+    })

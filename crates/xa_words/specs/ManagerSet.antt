@@ -16,5 +16,5 @@ abbrev pub with_manager : ℕ → List Bool → List Bool
 with_manager m set = set_of (λ k. is_in set k || (m == k))
 
 -- its managers, by rising number
-abbrev pub managers_in : List Bool → List ℕ
-managers_in set = filter (is_in set) (range_with_len 1 MOST_MANAGERS)
+abbrev pub managers_of_set : List Bool → List ℕ
+managers_of_set set = filter (is_in set) (range_with_len 1 MOST_MANAGERS)

@@ -7,13 +7,13 @@
 #[derive(Clone, Copy, Debug, PartialEq, Eq)]
 pub enum Death {
     /// All branches were asked to prepare, and so many votes were collected.
-    Preparing(u32),
+    Preparing(u8),
     /// All branches have voted. Nothing is decided.
     Prepared,
     /// It is decided, and logged where that is wanted. No branch has heard of it.
     Decided,
     /// All branches that want the decision were told, and so many of their answers were collected.
-    Telling(u32),
+    Telling(u8),
     /// All branches were told, and have answered. None was told to forget a decision of its own.
     Told,
 }

@@ -21,10 +21,10 @@ use Rattle.xa_work.specs.declared.step.WorkStep.{WorkStep}
 use Rattle.xa_work.specs.declared.step.WorkStep.TheVariants.{Start, Add, End}
 
 -- what a step of a branch's work asks its manager for
-abbrev pub op_of : XidName → WorkStep → Op
-op_of x Start = ops.Start x Fresh
-op_of x (Add k d) = ops.Add k d
-op_of x End = ops.End x Success
+abbrev pub op_of_step : XidName → WorkStep → Op
+op_of_step x Start = ops.Start x Fresh
+op_of_step x (Add k d) = ops.Add k d
+op_of_step x End = ops.End x Success
 
 -- ---- asynchronous calls
 
@@ -58,7 +58,7 @@ PutsOp m op (pos (suc k)) old new = IsPut m op (suc k) old new
 PutsOp m op (negsuc k) old new = IsTurnedAway m op (negsuc k) old new
 
 -- the answer is that the queue of manager m was full: it takes asynchronous calls, and a handle was free
-pub record IsFull (m : ℕ) (answer : ℤ) (d : DeskView) : Type 0 where
+pub record QueueIsFull (m : ℕ) (answer : ℤ) (d : DeskView) : Type 0 where
   pub answered : answer ≡ number_of Async
   pub carries : carries_async d m ≡ true
   pub free : 0 < d.handles - outstanding d.ledgers
@@ -66,7 +66,7 @@ pub record IsFull (m : ℕ) (answer : ℤ) (d : DeskView) : Type 0 where
 -- the op was put or turned away so, and not for a full queue
 pub record PutsAtLast (m : ℕ) (op : Op) (answer : ℤ) (old new : DeskView) : Type 0 where
   pub puts : PutsOp m op answer old new
-  pub unfull : IsFull m answer new → ⊥
+  pub unfull : QueueIsFull m answer new → ⊥
 
 -- what was kept under number k was collected with this code
 pub record IsCollected (k : ℕ) (c : Code) (old new : DeskView) : Type 0 where

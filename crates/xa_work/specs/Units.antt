@@ -1,6 +1,5 @@
 -- What a unit of work does to its thread's desk and log.
-use Rattle.std.specs.Prelude.{◌≡◌, ◌+◌, ◌≤◌, Bool, true, false, Option, None, Some, List, length, Vec}
-use Rattle.std.specs.Global.{Global}
+use Rattle.std.specs.Prelude.{◌≡◌, ◌+◌, ◌≤◌, Bool, true, false, Option, None, Some, List, length}
 use Rattle.std.specs.List.{All}
 use Rattle.xa_base.specs.declared.limits.TheConstants.{MOST_MANAGERS, MOST_REQUESTS}
 use Rattle.xa_words.specs.Tran.{TranName}
@@ -9,18 +8,19 @@ use Rattle.xa_words.specs.declared.death.Death.{Death}
 use Rattle.xa_desk.specs.LedgerViews.{LedgerView}
 use Rattle.xa_desk.specs.DeskViews.{DeskView, ledger, room_at}
 use Rattle.xa_driver.specs.declared.branch.Branch.{Branch}
-use Rattle.xa_driver.specs.declared.done.Done.{Done}
-use Rattle.xa_driver.specs.Deaths.{Dies, PutsLedger, is_decided_by}
+use Rattle.xa_driver.specs.declared.done.CommitOutcome.{CommitOutcome}
+use Rattle.xa_driver.specs.declared.done.CommitOutcome.TheVariants.{Undecided}
+use Rattle.xa_driver.specs.Deaths.{PutsLedger}
+use Rattle.xa_driver.specs.Outcomes.{ComesTo, comes_to_commit, comes_to_death, ends_the_log}
 use Rattle.xa_driver.specs.Resolving.{AsksLedger}
-use Rattle.xa_driver.specs.Stages.{HasVoted}
 use Rattle.xa_driver.specs.Decision.{yes_of}
-use Rattle.xa_driver.specs.Trace.{IsCommit, IsTranOf, MayCommit, wants_record}
+use Rattle.xa_driver.specs.Trace.{IsTranOf, MayCommit}
 use Rattle.xa_log.specs.Log.{LogState}
 use Rattle.xa_work.specs.declared.unit.Change.{Change}
 use Rattle.xa_work.specs.declared.unit.Refusal.TheVariants.{GivenUp, NotBegun}
 use Rattle.xa_work.specs.declared.unit.TheConstants.{AFTERWARDS}
 use Rattle.xa_work.specs.declared.unit.WorkOutcome.{WorkOutcome}
-use Rattle.xa_work.specs.declared.unit.WorkOutcome.TheVariants.{Decided, Died, Refused, Undecided}
+use Rattle.xa_work.specs.declared.unit.WorkOutcome.TheVariants.{Commit, Refused}
 use Rattle.xa_work.specs.Sent.{HaveSent, IsFor}
 use Rattle.xa_work.specs.Works.{GivesUp, HaveWorked, Tries, are_placed, steps_in}
 
@@ -44,64 +44,44 @@ pub record MayBegin (d : DeskView) (log : LogState) (bs : List Branch) (cs : Lis
 
 -- ---- what comes of its commit
 
--- A commit of these branches was begun, and its coordinator died at this point of it, when this was known: it might be
+-- What comes of a commit of these branches, at a point of which the coordinator is to die, or at none: it might be
 -- made, and the branches' managers and the log have what it came to.
-pub record IsDeath (at : Death) (bs : List Branch) (desk : DeskView) (new : List LedgerView) (log later : LogState)
-    (known : Done) : Type 0 where
-  pub may : MayCommit desk log bs
-  pub dies : Dies AsksLedger PutsLedger at may.tran bs (ledger desk.ledgers) (ledger new) log later known
-  pub managers : length new ≡ length desk.ledgers
-
--- a coordinator that is to die at this point of a commit, or at none, comes to the decision
-abbrev pub comes_to_decide : Option Death → Bool
-comes_to_decide None = true
-comes_to_decide (Some at) = is_decided_by at
-
--- What comes of a commit of these branches, at a point of which the coordinator is to die, or at none: it was made, and
--- decided so; or the coordinator died there; or all votes wanted a record, nobody knows whether the log has it, and so
--- the branches were told nothing.
-pub data ComesOfCommit (bs : List Branch) (death : Option Death) (o : WorkOutcome) (desk : DeskView)
+pub record ComesOfCommit (bs : List Branch) (death : Option Death) (o : CommitOutcome) (desk : DeskView)
     (new : List LedgerView) (log later : LogState) : Type 0 where
-  in_full : (done : Done) → death ≡ None → o ≡ Decided done → IsCommit bs desk new log later done
-      → ComesOfCommit bs death o desk new log later
-  cut_short : (at : Death) (known : Done) → death ≡ Some at → o ≡ Died at known
-      → IsDeath at bs desk new log later known → ComesOfCommit bs death o desk new log later
-  undecided : (votes : Vec Code Global) → comes_to_decide death ≡ true → o ≡ Undecided votes → MayCommit desk log bs
-      → HasVoted bs desk.ledgers new votes.items → wants_record votes.items ≡ true
-      → ComesOfCommit bs death o desk new log later
+  pub may : MayCommit desk log bs
+  pub comes : ComesTo AsksLedger PutsLedger death may.tran bs (ledger desk.ledgers) (ledger new) log later o
+  pub managers : length new ≡ length desk.ledgers
 
 -- Whether a log is known, after a unit of work that came to this of which it was known before: unless it has lost the
 -- record.
 abbrev pub LeavesKnown : Type 0 → WorkOutcome → Type 0
-LeavesKnown Known (Undecided votes) = Known → ⊥
+LeavesKnown Known (Commit (Undecided votes)) = Known → ⊥
 LeavesKnown Known o = Known
 
 -- what holds where the log has lost the record, with these votes
 abbrev pub IfLost : (List Code → Type 0) → WorkOutcome → Type 0
-IfLost P (Undecided votes) = P votes.items
+IfLost P (Commit (Undecided votes)) = P votes.items
 IfLost P o = Unit {0}
 
 -- the log has lost the record that the votes on these branches wanted
-abbrev pub Loses : {L : Type 0} → (TranName → List Bool → L → L → Type 0) → List Branch → L → L → List Code → Type 0
-Loses loses bs old new votes = (t : TranName) → IsTranOf bs t → loses t (yes_of bs votes) old new
+abbrev pub LosesRecord : {L : Type 0} → (TranName → List Bool → L → L → Type 0) → List Branch → L → L → List Code
+    → Type 0
+LosesRecord loses bs old new votes = (t : TranName) → IsTranOf bs t → loses t (yes_of bs votes) old new
 
 -- it was decided to commit
-abbrev pub is_to_commit : WorkOutcome → Bool
-is_to_commit (Decided done) = done.commit
-is_to_commit (Died at known) = known.commit
-is_to_commit (Undecided votes) = false
-is_to_commit (Refused why) = false
+abbrev pub decided_to_commit : WorkOutcome → Bool
+decided_to_commit (Commit o) = comes_to_commit o
+decided_to_commit (Refused why) = false
 
 -- the coordinator died with it
 abbrev pub has_died : WorkOutcome → Bool
-has_died (Died at known) = true
-has_died o = false
+has_died (Commit o) = comes_to_death o
+has_died (Refused why) = false
 
 -- no unit of work is to follow it with its log: the coordinator died with it, or the log has lost the record
 abbrev pub is_last : WorkOutcome → Bool
-is_last (Died at known) = true
-is_last (Undecided votes) = true
-is_last o = false
+is_last (Commit o) = ends_the_log o
+is_last (Refused why) = false
 
 -- ---- the whole
 
@@ -130,7 +110,8 @@ pub record IsGivenUp (bs : List Branch) (cs : List Change) (old new : DeskView) 
 -- branches were sent, no Commit among them. `Known` says that the log is known at first.
 pub data Transacts (bs : List Branch) (cs : List Change) (death : Option Death) (o : WorkOutcome) (old new : DeskView)
     (log : LogState) (Known : Type 0) (later : LogState) : Type 0 where
-  commits : (worked : DeskView) → MayBegin old log bs cs → Known → HaveWorked cs bs old.ledgers worked.ledgers
-      → ComesOfCommit bs death o worked new.ledgers log later → Transacts bs cs death o old new log Known later
+  commits : (worked : DeskView) (outcome : CommitOutcome) → o ≡ Commit outcome → MayBegin old log bs cs → Known
+      → HaveWorked cs bs old.ledgers worked.ledgers → ComesOfCommit bs death outcome worked new.ledgers log later
+      → Transacts bs cs death o old new log Known later
   refused : later ≡ log → IsRefused bs cs o old new log Known → HaveSent (IsFor bs) old.ledgers new.ledgers
       → Transacts bs cs death o old new log Known later

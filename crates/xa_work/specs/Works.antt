@@ -40,8 +40,8 @@ abbrev pub requests_at : List Change → Branch → List (ℕ × Op)
 requests_at cs b = map (λ o. (b.m, o)) (ops_of cs b)
 
 -- those of all branches, in the order of the branches
-abbrev pub requests_of : List Change → List Branch → List (ℕ × Op)
-requests_of cs bs = flat_map (requests_at cs) bs
+abbrev pub requests_of_branches : List Change → List Branch → List (ℕ × Op)
+requests_of_branches cs bs = flat_map (requests_at cs) bs
 
 -- each change is at a branch's manager
 abbrev pub are_placed : List Branch → List Change → Bool
@@ -75,26 +75,26 @@ pub record CollectsAll (flights : List Flight) (ok : Bool) (old new : DeskView) 
 
 -- there is a handle for each request of the work, and each branch's manager takes asynchronous calls
 pub record CanFly (cs : List Change) (bs : List Branch) (d : DeskView) : Type 0 where
-  pub handles : length (requests_of cs bs) ≤ d.handles - outstanding d.ledgers
+  pub handles : length (requests_of_branches cs bs) ≤ d.handles - outstanding d.ledgers
   pub carry : list_all (λ b. carries_async d b.m) bs ≡ true
 
 -- all requests were put, and then collected, and whether each answered XA_OK
 pub record TriesInFlight (cs : List Change) (bs : List Branch) (ok : Bool) (old new : DeskView) : Type 0 where
   pub begun : DeskView
   pub flights : List Flight
-  pub puts : PutsRequests (requests_of cs bs) flights old begun
+  pub puts : PutsRequests (requests_of_branches cs bs) flights old begun
   pub collects : CollectsAll flights ok begun new
 
 -- ---- in turn
 
 -- a request that was called, and whether it answered XA_OK
-pub record Called : Type 0 where
+pub record CalledOp : Type 0 where
   pub op : Op
   pub ok : Bool
 
 -- these requests were called at manager m, one after the other, and whether each answered XA_OK
 pub record CallsOps (m : ℕ) (ops : List Op) (ok : Bool) (old new : DeskView) : Type 0 where
-  pub calls : List Called
+  pub calls : List CalledOp
   pub ops_are : map (λ c. c.op) calls ≡ ops
   pub each : Chain (λ c d e. CallsOp m c.op c.ok d e) old calls new
   pub all : ok ≡ list_all (λ c. c.ok) calls
@@ -120,14 +120,14 @@ pub data Tries (cs : List Change) (bs : List Branch) (ok : Bool) (old new : Desk
 
 -- A branch's work was done: its requests were sent to its manager, one after the other, and each was collected with
 -- XA_OK.
-pub record HasWorked (cs : List Change) (b : Branch) (a a' : LedgerView) : Type 0 where
+pub record HasDoneWork (cs : List Change) (b : Branch) (a a' : LedgerView) : Type 0 where
   pub sent : a'.sent ≡ a.sent ++ ops_of cs b
   pub collected : a'.collected
       ≡ a.collected ++ map (λ n. (n, Done)) (range_with_len (length a.sent) (length (ops_of cs b)))
 
 -- so for all branches, and nothing else was done
 pub record HaveWorked (cs : List Change) (bs : List Branch) (old new : List LedgerView) : Type 0 where
-  pub each : All (λ b. HasWorked cs b (ledger old b.m) (ledger new b.m)) bs
+  pub each : All (λ b. HasDoneWork cs b (ledger old b.m) (ledger new b.m)) bs
   pub others : (m : ℕ) → 1 ≤ m → has_branch_at bs m ≡ false → ledger new m ≡ ledger old m
 
 -- ---- opening the managers
@@ -147,11 +147,11 @@ pub record OpensAll (ok : Bool) (old new : DeskView) : Type 0 where
 -- ---- giving it up
 
 -- a call of XA with these flags was made for the branch
-abbrev pub Asks : Call → ℕ → Branch → DeskView → DeskView → Type 0
-Asks c flags b old new = (answer : ℤ) × Calls (asked_of c (Some b.xid) flags) old b.m new answer
+abbrev pub CallsFor : Call → ℕ → Branch → DeskView → DeskView → Type 0
+CallsFor c flags b old new = (answer : ℤ) × Calls (asked_of c (Some b.xid) flags) old b.m new answer
 
 -- the work on all branches was ended as failed, and then all were rolled back, one call after the other
 pub record GivesUp (bs : List Branch) (old new : DeskView) : Type 0 where
   pub ended : DeskView
-  pub ends : Chain (Asks call.End TMFAIL) old bs ended
-  pub rolls_back : Chain (Asks call.Rollback 0) ended bs new
+  pub ends : Chain (CallsFor call.End TMFAIL) old bs ended
+  pub rolls_back : Chain (CallsFor call.Rollback 0) ended bs new

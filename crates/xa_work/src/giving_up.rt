@@ -3,7 +3,7 @@ ghost use Rattle.std.specs.Prelude.{◌≡◌};
 ghost use Rattle.xa_words.specs.Flags.{TMFAIL};
 ghost use Rattle.xa_desk.specs.GoingOn.{GoesOn};
 ghost use Rattle.xa_desk.specs.Kept.{AllKept};
-ghost use Rattle.xa_work.specs.Works.{Asks, GivesUp};
+ghost use Rattle.xa_work.specs.Works.{CallsFor, GivesUp};
 
 use std::sync::Wait;
 use xa_calls::xa_call;
@@ -19,7 +19,7 @@ fn fail<R: Wait, I: Idle>(rt: &R, desk: &mut Desk, branch: &Branch, idle: &mut I
     ensures goes_on { GoesOn desk.old desk.new }
     ensures kept { AllKept desk.old → AllKept desk.new }
     ensures idled { I.leads idle.old idle.new }
-    ensures asks { Asks Call.End TMFAIL branch.now desk.old desk.new }
+    ensures asks { CallsFor Call.End TMFAIL branch.now desk.old desk.new }
 {
     xa_call(
         rt,
@@ -37,7 +37,7 @@ fn roll_back<R: Wait, I: Idle>(rt: &R, desk: &mut Desk, branch: &Branch, idle: &
     ensures goes_on { GoesOn desk.old desk.new }
     ensures kept { AllKept desk.old → AllKept desk.new }
     ensures idled { I.leads idle.old idle.new }
-    ensures asks { Asks Call.Rollback 0 branch.now desk.old desk.new }
+    ensures asks { CallsFor Call.Rollback 0 branch.now desk.old desk.new }
 {
     xa_call(
         rt,

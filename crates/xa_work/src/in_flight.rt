@@ -2,10 +2,10 @@
 ghost use Rattle.std.specs.Prelude.{◌≡◌, ◌↔◌, ◌≤◌, ◌+◌, ◌++◌, [], List, IsTrue, length, vec_capacity};
 ghost use Rattle.xa_desk.specs.GoingOn.{GoesOn};
 ghost use Rattle.xa_desk.specs.Kept.{AllKept};
-ghost use Rattle.xa_work.specs.Requests.{CollectsOp, IsFull, PutsAtLast, op_of};
+ghost use Rattle.xa_work.specs.Requests.{CollectsOp, QueueIsFull, PutsAtLast, op_of_step};
 ghost use Rattle.xa_work.specs.Units.{AreFew};
-ghost use Rattle.xa_work.specs.Works.{CollectsAll, PutsRequests, TriesInFlight, ops_of, requests_at, requests_of};
-ghost use Rattle.xa_work.specs.Works.{steps_in};
+ghost use Rattle.xa_work.specs.Works.{CollectsAll, PutsRequests, TriesInFlight, ops_of, requests_at};
+ghost use Rattle.xa_work.specs.Works.{requests_of_branches, steps_in};
 
 use crate::step::{WorkStep, take_step};
 use crate::unit::Change;
@@ -28,7 +28,7 @@ pub(crate) struct Flight {
 // Whether what was answered so by the manager is put again, after an idle: it was refused for a full queue. A manager
 // that takes no asynchronous call, and want of a handle, are answered by the same code, and stay.
 fn is_full(desk: &Desk, manager: u32, answer: i32) -> bool
-    ensures { IsTrue result ↔ IsFull manager answer desk.now }
+    ensures { IsTrue result ↔ QueueIsFull manager answer desk.now }
 {
     answer == Code::Async.value() && desk.carries_async(manager) && desk.free() > 0
 }
@@ -45,7 +45,7 @@ fn put<R: Wait, I: Idle>(
     ensures kept { AllKept desk.old → AllKept desk.new }
     ensures idled { I.leads idle.old idle.new }
     ensures manager { result.manager ≡ branch.now.m }
-    ensures puts { PutsAtLast branch.now.m (op_of branch.now.xid step.now) result.handle desk.old desk.new }
+    ensures puts { PutsAtLast branch.now.m (op_of_step branch.now.xid step.now) result.handle desk.old desk.new }
 {
     desks_go_on();
     idles_go_on::<I>();
@@ -128,7 +128,7 @@ fn collect_all<R: Wait, I: Idle>(rt: &R, desk: &mut Desk, flights: &[Flight], id
 /// How many steps the work of the branches has: two for each, and the changes at its manager.
 pub(crate) fn count_steps(branches: &[Branch], changes: &[Change]) -> usize
     requires { AreFew branches.now changes.now }
-    ensures { result ≡ length (requests_of changes.now branches.now) }
+    ensures { result ≡ length (requests_of_branches changes.now branches.now) }
 {
     let mut count = 0;
     for branch in branches {
@@ -163,7 +163,7 @@ pub(crate) fn work_in_flight<R: Wait, I: Idle>(
     idle: &mut I,
 ) -> bool
     requires none { flights.items ≡ [] }
-    requires room { length (requests_of changes.now branches.now) ≤ vec_capacity flights }
+    requires room { length (requests_of_branches changes.now branches.now) ≤ vec_capacity flights }
     ensures goes_on { GoesOn desk.old desk.new }
     ensures kept { AllKept desk.old → AllKept desk.new }
     ensures idled { I.leads idle.old idle.new }

@@ -2,7 +2,7 @@
 //! them.
 ghost use Rattle.xa_desk.specs.GoingOn.{GoesOn};
 ghost use Rattle.xa_desk.specs.Kept.{AllKept};
-ghost use Rattle.xa_work.specs.Requests.{CallsOp, op_of};
+ghost use Rattle.xa_work.specs.Requests.{CallsOp, op_of_step};
 ghost use Rattle.xa_work.specs.Works.{CallsBranch, CallsBranches};
 
 use crate::step::{WorkStep, take_step};
@@ -24,7 +24,7 @@ fn ask<R: Wait, I: Idle>(
     ensures goes_on { GoesOn desk.old desk.new }
     ensures kept { AllKept desk.old → AllKept desk.new }
     ensures idled { I.leads idle.old idle.new }
-    ensures calls { CallsOp branch.now.m (op_of branch.now.xid step.now) result desk.old desk.new }
+    ensures calls { CallsOp branch.now.m (op_of_step branch.now.xid step.now) result desk.old desk.new }
 {
     take_step(rt, desk, branch, step, false, idle) == 0
 }

@@ -3,7 +3,7 @@ ghost use Rattle.std.specs.Prelude.{◌≡◌};
 ghost use Rattle.xa_desk.specs.GoingOn.{GoesOn};
 ghost use Rattle.xa_desk.specs.Kept.{AllKept};
 ghost use Rattle.xa_calls.specs.Putting.{Puts};
-ghost use Rattle.xa_work.specs.Requests.{op_of};
+ghost use Rattle.xa_work.specs.Requests.{op_of_step};
 
 use std::sync::Wait;
 use xa_calls::{native, xa_call};
@@ -35,7 +35,7 @@ pub(crate) fn take_step<R: Wait, I: Idle>(
     ensures kept { AllKept desk.old → AllKept desk.new }
     ensures idled { I.leads idle.old idle.new }
     ensures puts { Puts desk.old branch.now.m (record {
-      op = op_of branch.now.xid step.now;
+      op = op_of_step branch.now.xid step.now;
       asynchronous = asynchronous;
     }) desk.new result }
 {

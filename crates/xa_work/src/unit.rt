@@ -2,13 +2,13 @@
 ghost use Rattle.std.specs.Prelude.{◌≡◌, ◌-◌, ◌↔◌, ◌≤◌, true, IfOk, IsTrue, None, OnErr, Some, length};
 ghost use Rattle.xa_desk.specs.GoingOn.{GoesOn};
 ghost use Rattle.xa_desk.specs.Kept.{AllKept};
-ghost use Rattle.xa_driver.specs.Trace.{MayCommit, has_branch_at};
+ghost use Rattle.xa_driver.specs.Trace.{has_branch_at};
 ghost use Rattle.xa_work.specs.Sent.{HaveSent, NamesOnly};
-ghost use Rattle.xa_work.specs.Units.{AreFew, ComesOfCommit, HaveRoomToWork, IsGivenUp, LeavesKnown, MayBegin};
+ghost use Rattle.xa_work.specs.Units.{AreFew, HaveRoomToWork, IsGivenUp, LeavesKnown, MayBegin};
 ghost use Rattle.std.specs.List.{list_all};
 ghost use Rattle.xa_desk.specs.DeskViews.{outstanding};
 ghost use Rattle.xa_work.specs.Requests.{carries_async};
-ghost use Rattle.xa_work.specs.Units.{IfLost, Loses, Transacts, has_died, is_last, is_to_commit};
+ghost use Rattle.xa_work.specs.Units.{IfLost, LosesRecord, Transacts, has_died, is_last, decided_to_commit};
 ghost use Rattle.xa_work.specs.Works.{Tries, are_placed};
 
 use crate::giving_up::give_up;
@@ -20,9 +20,9 @@ use xa_base::MOST_REQUESTS;
 use xa_crew::laws::idles_go_on;
 use xa_desk::laws::desks_go_on;
 use xa_desk::{Desk, Idle};
-use xa_driver::{Branch, CommitFault, Done, DriverFault, commit_all, commit_until, may_commit};
+use xa_driver::{Branch, CommitOutcome, commit, may_commit};
 use xa_log::DecisionLog;
-use xa_words::{Code, Death, Delta, Key};
+use xa_words::{Death, Delta, Key};
 
 /// A change of a value at a manager.
 #[derive(Clone, Copy, Debug, PartialEq, Eq)]
@@ -50,15 +50,8 @@ pub enum Refusal {
 /// What became of a unit of work.
 #[derive(Debug, Drop)]
 pub enum WorkOutcome {
-    /// All of its work answered XA_OK, and `commit_all` came to this. A manager may have voted against it.
-    Decided(Done),
-    /// All of its work answered XA_OK, and the coordinator died at this point of the commit, when this was known of it.
-    /// What is left is resolved by its log. Requests may be outstanding: they are collected as the desk ends.
-    Died { at: Death, known: Done },
-    /// All of its work answered XA_OK, and nobody knows whether the log has the record of the decision. No manager was
-    /// told one: what is left is resolved by the log, once it is opened again. With the votes, in the order of the
-    /// branches.
-    Undecided(Vec<Code>),
+    /// All of its work answered XA_OK, and the commit of its branches came to this.
+    Commit(CommitOutcome),
     /// No Commit was sent.
     Refused(Refusal),
 }
@@ -66,12 +59,11 @@ pub enum WorkOutcome {
 impl WorkOutcome {
     /// Whether it was decided to commit.
     pub fn is_to_commit(&self) -> bool
-        ensures { result ≡ is_to_commit self.now }
+        ensures { result ≡ decided_to_commit self.now }
     {
         match self {
-            WorkOutcome::Decided(done) => done.commit,
-            WorkOutcome::Died { at: _, known } => known.commit,
-            WorkOutcome::Undecided(_) | WorkOutcome::Refused(_) => false,
+            WorkOutcome::Commit(outcome) => outcome.is_to_commit(),
+            WorkOutcome::Refused(_) => false,
         }
     }
 
@@ -79,7 +71,10 @@ impl WorkOutcome {
     pub fn has_died(&self) -> bool
         ensures { result ≡ has_died self.now }
     {
-        matches!(self, WorkOutcome::Died { at: _, known: _ })
+        match self {
+            WorkOutcome::Commit(outcome) => outcome.has_died(),
+            WorkOutcome::Refused(_) => false,
+        }
     }
 
     /// Whether no unit of work is to follow it with this log: the coordinator died with it, or the log has lost the
@@ -88,8 +83,8 @@ impl WorkOutcome {
         ensures { result ≡ is_last self.now }
     {
         match self {
-            WorkOutcome::Died { at: _, known: _ } | WorkOutcome::Undecided(_) => true,
-            WorkOutcome::Decided(_) | WorkOutcome::Refused(_) => false,
+            WorkOutcome::Commit(outcome) => outcome.is_last(),
+            WorkOutcome::Refused(_) => false,
         }
     }
 }
@@ -138,10 +133,16 @@ pub fn may_begin<L: DecisionLog>(
     ensures { IsTrue result
         ↔ (MayBegin desk.now (L.state log.now) branches.now changes.now × L.knows log.now) }
 {
-    changes.len() <= MOST_REQUESTS
-        && may_commit(desk, log, branches)
-        && are_placed(branches, changes)
-        && have_room(desk, branches, changes)
+    if changes.len() > MOST_REQUESTS {
+        return false;
+    }
+    if !may_commit(desk, log, branches) {
+        return false;
+    }
+    if !are_placed(branches, changes) {
+        return false;
+    }
+    have_room(desk, branches, changes)
 }
 
 // Whether each branch's manager takes asynchronous calls.
@@ -184,45 +185,6 @@ fn work<R: Wait, I: Idle>(
     work_in_turn(rt, desk, branches, changes, idle)
 }
 
-// Commits the branches, or dies at this point of their commit. It fails only for want of memory, and then nothing was
-// sent.
-fn commit<R: Wait, L: DecisionLog, I: Idle>(
-    rt: &R,
-    alloc: Global,
-    desk: &mut Desk,
-    log: &mut L,
-    branches: &[Branch],
-    death: Option<Death>,
-    idle: &mut I,
-) -> Result<WorkOutcome, DriverFault>
-    requires may { MayCommit desk.old (L.state log.old) branches.now }
-    requires known { L.knows log.old }
-    ensures goes_on { GoesOn desk.old desk.new }
-    ensures kept { AllKept desk.old → AllKept desk.new }
-    ensures idled { I.leads idle.old idle.new }
-    ensures comes { IfOk result (λ o. ComesOfCommit branches.now death o desk.old desk.new.ledgers (L.state log.old)
-        (L.state log.new)) }
-    ensures known { IfOk result (LeavesKnown (L.knows log.new)) }
-    ensures lost { IfOk result (IfLost (Loses L.loses branches.now log.old log.new)) }
-    ensures unsent { OnErr result (desk.new ≡ desk.old) }
-    ensures unlogged { OnErr result (log.new ≡ log.old) }
-{
-    desks_go_on();
-    idles_go_on::<I>();
-    match death {
-        None => match commit_all(rt, alloc, desk, log, branches, idle) {
-            Ok(done) => Ok(WorkOutcome::Decided(done)),
-            Err(CommitFault::NoMemory) => Err(DriverFault::NoMemory),
-            Err(CommitFault::Undecided(votes)) => Ok(WorkOutcome::Undecided(votes)),
-        },
-        Some(at) => match commit_until(rt, alloc, desk, log, branches, at, idle) {
-            Ok(known) => Ok(WorkOutcome::Died { at, known }),
-            Err(CommitFault::NoMemory) => Err(DriverFault::NoMemory),
-            Err(CommitFault::Undecided(votes)) => Ok(WorkOutcome::Undecided(votes)),
-        },
-    }
-}
-
 /// Does a unit of work: starts each branch, makes the changes at its manager in their order, and ends it; then commits
 /// all branches.
 ///
@@ -258,7 +220,7 @@ pub fn transact<R: Wait, L: DecisionLog, I: Idle>(
 
     // The log is known afterwards, unless it has lost the record: then it has that or hasn't, and else what it had.
     ensures known { IfOk result (λ o. L.knows log.old → LeavesKnown (L.knows log.new) o) }
-    ensures lost { IfOk result (IfLost (Loses L.loses branches.now log.old log.new)) }
+    ensures lost { IfOk result (IfLost (LosesRecord L.loses branches.now log.old log.new)) }
 
     // Where memory was wanted, all of the work answered XA_OK, and it was given up.
     ensures wants { OnErr result (IsGivenUp branches.now changes.now desk.old desk.new (L.state log.old)) }
@@ -267,8 +229,7 @@ pub fn transact<R: Wait, L: DecisionLog, I: Idle>(
     transact_until(rt, alloc, desk, log, branches, changes, None, idle)
 }
 
-/// The same by a coordinator that dies at this point of the commit, if at any, as `commit_until` dies. Where it comes
-/// to no commit it lives on.
+/// The same by a coordinator that dies at this point of the commit, if at any. Where it comes to no commit it lives on.
 pub fn transact_until<R: Wait, L: DecisionLog, I: Idle>(
     rt: &R,
     alloc: Global,
@@ -286,7 +247,7 @@ pub fn transact_until<R: Wait, L: DecisionLog, I: Idle>(
     ensures transacts { IfOk result (λ o. Transacts branches.now changes.now death o desk.old desk.new
         (L.state log.old) (L.knows log.old) (L.state log.new)) }
     ensures known { IfOk result (λ o. L.knows log.old → LeavesKnown (L.knows log.new) o) }
-    ensures lost { IfOk result (IfLost (Loses L.loses branches.now log.old log.new)) }
+    ensures lost { IfOk result (IfLost (LosesRecord L.loses branches.now log.old log.new)) }
     ensures wants { OnErr result (IsGivenUp branches.now changes.now desk.old desk.new (L.state log.old)) }
     ensures unlogged { OnErr result (log.new ≡ log.old) }
 {
@@ -304,5 +265,5 @@ pub fn transact_until<R: Wait, L: DecisionLog, I: Idle>(
         give_up(rt, desk, branches, idle);
         return Err(AllocError);
     };
-    Ok(outcome)
+    Ok(WorkOutcome::Commit(outcome))
 }

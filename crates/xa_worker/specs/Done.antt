@@ -7,7 +7,7 @@ use Rattle.xa_lane.specs.Ends.{SameReceiver, received, has_ended}
 use Rattle.xa_lane.specs.Senders.{sent_at}
 use Rattle.xa_worker.specs.Journal.{Entry, Follows, requests, owed}
 use Rattle.xa_worker.specs.Outgoing.{Answering, SameLanes}
-use Rattle.xa_worker.specs.Workers.{WorkerView, RequestLane, Extends, asked, of_own_thread}
+use Rattle.xa_worker.specs.Workers.{WorkerView, RequestLane, Extends, requests_taken, of_own_thread}
 
 -- a worker that has run: its manager's number, the tables that the manager was given with, the manager, the lane of
 -- requests, the ends of the lanes of completions, and the journal
@@ -29,7 +29,7 @@ pub record IsServed (d : Served) : Type 0 where
   -- from the tables at first on the journal has the codes of its places, and the manager the tables after it
   pub follows : Follows d.first d.journal d.manager.tables
   -- the journal's requests are what was taken, in that order, each of its sender's thread
-  pub taken : asked d.receiver.taken ≡ map of_own_thread d.journal
+  pub taken : requests_taken d.receiver.taken ≡ map of_own_thread d.journal
   -- what was sent to thread k + 1 is what the journal owes it
   pub sent : (k : ℕ) → sent_at k d.ends ≡ owed d.number (k + 1) d.journal
   -- the end of each thread was taken

@@ -2,7 +2,7 @@
 use Rattle.std.specs.Prelude.{◌≡◌, ℕ, ◌+◌, ◌≤◌, ◌<◌, Bool, true, false, [], List, length, get_or, vec_capacity}
 use Rattle.xa_base.specs.declared.limits.TheConstants.{MOST_THREADS}
 use Rattle.xa_lane.specs.Ends.{has_ended}
-use Rattle.xa_worker.specs.Workers.{WorkerView, IsTied, first_tables}
+use Rattle.xa_worker.specs.Workers.{WorkerView, IsTiedWorker, first_tables}
 use Rattle.xa_worker.specs.declared.worker.Worker.TheInside.{Inside}
 
 -- the first n are all set
@@ -23,7 +23,7 @@ working_of w = record {
 
 -- what holds of the parts
 pub record IsWorker (w : Inside) : Type 0 where
-  pub tied : IsTied (working_of w)
+  pub tied : IsTiedWorker (working_of w)
   -- the journal has room for what the manager has
   pub room : length w.journal.items + w.manager.room ≤ vec_capacity w.journal
   -- which threads' ends were taken

@@ -25,8 +25,8 @@ abbrev pub tables_next : Request → Tables → Tables
 tables_next r T = (next r.thread r.op T).0
 
 -- a manager that has carried out one request more
-abbrev pub applied : Request → Managed → Managed
-applied r m =
+abbrev pub after_request : Request → Managed → Managed
+after_request r m =
     record { tables = tables_next r m.tables; threads = m.threads; room = m.room - 1; reserved = None }
 
 -- the requests of a journal

@@ -38,9 +38,9 @@ sent_each [] ss = ss
 sent_each (p ∷ rest) ss = sent_each rest (at_place p.0 (with_item p.1) ss)
 
 -- the senders once the first of these, if there is one, has found its lane full
-abbrev pub found_full : List Addressed → List Answering → List Answering
-found_full [] ss = ss
-found_full (p ∷ rest) ss = at_place p.0 with_full ss
+abbrev pub first_found_full : List Addressed → List Answering → List Answering
+first_found_full [] ss = ss
+first_found_full (p ∷ rest) ss = at_place p.0 with_full ss
 
 -- the first that waits was sent
 pub record SendsFirst (o o' : Outgoing) : Type 0 where
@@ -59,7 +59,7 @@ pub record FindsFull (o o' : Outgoing) : Type 0 where
 pub record Flushes (o o' : Outgoing) : Type 0 where
   pub sent : List Addressed
   pub waits : o.waiting ≡ sent ++ o'.waiting
-  pub senders : o'.senders ≡ found_full o'.waiting (sent_each sent o.senders)
+  pub senders : o'.senders ≡ first_found_full o'.waiting (sent_each sent o.senders)
 
 -- the same, or, while a store owes, nothing is offered
 abbrev pub Offers : Bool → Outgoing → Outgoing → Type 0
@@ -71,13 +71,13 @@ abbrev pub with_waiting : ℕ → Completion → Outgoing → Outgoing
 with_waiting k c o = record o { waiting = o.waiting ++ (k, c) ∷ [] }
 
 -- c was sent on the lane at place k, or waits for it, since it was full
-abbrev pub Puts : Outgoing → ℕ → Completion → Outgoing → Type 0
-Puts o k c o' =
+abbrev pub SendsOrWaits : Outgoing → ℕ → Completion → Outgoing → Type 0
+SendsOrWaits o k c o' =
     (o' ≡ record o { senders = at_place k (with_item c) o.senders }) ⊎
     (o' ≡ with_waiting k c (record o { senders = at_place k with_full o.senders }))
 
 -- where a store owes, or others wait, c waits behind them, and else it is sent, if its lane has room
-abbrev pub Answers : Bool → Outgoing → ℕ → Completion → Outgoing → Type 0
-Answers owing o k c o' =
-    ((owing ≡ false) × (o.waiting ≡ []) × Puts o k c o') ⊎
+abbrev pub AnswersOrWaits : Bool → Outgoing → ℕ → Completion → Outgoing → Type 0
+AnswersOrWaits owing o k c o' =
+    ((owing ≡ false) × (o.waiting ≡ []) × SendsOrWaits o k c o') ⊎
     (((owing ≡ true) ⊎ (o.waiting ≢ [])) × (o' ≡ with_waiting k c o))

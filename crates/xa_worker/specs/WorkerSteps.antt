@@ -5,15 +5,15 @@ use Rattle.xa_words.specs.declared.request.Request.{Request}
 use Rattle.xa_lane.specs.declared.parcel.Taken.TheVariants.{Item, EndOf, Empty as Nothing}
 use Rattle.xa_lane.specs.Ends.{Took}
 use Rattle.xa_worker.specs.declared.outbox.TheConstants.{MOST_WAITING}
-use Rattle.xa_worker.specs.declared.step.Step.{Step}
-use Rattle.xa_worker.specs.declared.step.Step.TheVariants.{Did, Late, EndSeen, Empty, Blocked}
+use Rattle.xa_worker.specs.declared.step.WorkerStep.{WorkerStep}
+use Rattle.xa_worker.specs.declared.step.WorkerStep.TheVariants.{Did, Late, EndSeen, Empty, Blocked}
 use Rattle.xa_tables.specs.Histories.{History}
-use Rattle.xa_worker.specs.Journal.{Entry, entry_next, applied, completion_of, requests}
-use Rattle.xa_worker.specs.Outgoing.{Outgoing, Answers, Flushes, Offers}
+use Rattle.xa_worker.specs.Journal.{Entry, entry_next, after_request, completion_of, requests}
+use Rattle.xa_worker.specs.Outgoing.{Outgoing, AnswersOrWaits, Flushes, Offers}
 use Rattle.xa_worker.specs.Workers.{WorkerView, IsUnfit}
 
 -- a request is late where the manager was shut before it
-abbrev pub step_of : Bool → Step
+abbrev pub step_of : Bool → WorkerStep
 step_of true = Late
 step_of false = Did
 
@@ -24,9 +24,9 @@ pub record Enters (owing : Bool) (s : ℕ) (r : Request) (w w' : WorkerView) : T
   pub took : Took w.receiver (Item s r) w'.receiver
   pub thread : r.thread ≡ s + 1
   pub room : 0 < w.manager.room
-  pub manager : w'.manager ≡ applied r w.manager
+  pub manager : w'.manager ≡ after_request r w.manager
   pub journal : w'.journal ≡ w.journal ++ entry_next r w.manager.tables ∷ []
-  pub out : Answers owing w.out (r.thread - 1) (completion_of w.number (entry_next r w.manager.tables)) w'.out
+  pub out : AnswersOrWaits owing w.out (r.thread - 1) (completion_of w.number (entry_next r w.manager.tables)) w'.out
   pub rest : w' ≡ record w { manager = w'.manager; receiver = w'.receiver; out = w'.out; journal = w'.journal }
 
 -- some request was
@@ -58,7 +58,7 @@ pub record HasWay (owing : Bool) (w : WorkerView) : Type 0 where
   pub held_back : (owing ≡ true) ⊎ (w.out.waiting ≡ [])
 
 -- what each answer of a step that takes says
-abbrev pub Takes : Bool → WorkerView → Step → WorkerView → Type 0
+abbrev pub Takes : Bool → WorkerView → WorkerStep → WorkerView → Type 0
 Takes owing w Did w' = EntersOne owing w w' × (w.manager.tables.shut ≡ false)
 Takes owing w Late w' = EntersOne owing w w' × (w.manager.tables.shut ≡ true)
 Takes owing w EndSeen w' = SeesEnd w w'
@@ -73,7 +73,7 @@ pub record IsBlocked (w w' : WorkerView) : Type 0 where
 
 -- What a step does, where the worker's store owed something before it (`owed`) or not, and owes something after it
 -- (`owing`) or not. Those that waited are offered first; while the store owes they may be held back.
-abbrev pub Stepped : Bool → Bool → WorkerView → Step → WorkerView → Type 0
+abbrev pub Stepped : Bool → Bool → WorkerView → WorkerStep → WorkerView → Type 0
 Stepped owed owing w s w' =
     ((s ≡ Blocked) × IsBlocked w w')
     ⊎ ((o : Outgoing) × Offers owed w.out o × Takes owing (record w { out = o }) s w')
@@ -82,12 +82,12 @@ Stepped owed owing w s w' =
 
 module _ {P : Type 0} where
   -- it was told of these requests, one after another, and of nothing else
-  abbrev pub IsTold : (Request → P → P → Type 0) → History → P → P → Type 0
-  IsTold by [] before after = after ≡ before
-  IsTold by (r ∷ rs) before after = (mid : P) × by r before mid × IsTold by rs mid after
+  abbrev pub IsToldInOrder : (Request → P → P → Type 0) → History → P → P → Type 0
+  IsToldInOrder by [] before after = after ≡ before
+  IsToldInOrder by (r ∷ rs) before after = (mid : P) × by r before mid × IsToldInOrder by rs mid after
 
   -- from one journal to a later one it was told of each request that was entered, once and in the journal's order
   pub record Paces (by : Request → P → P → Type 0) (journal journal' : List Entry) (before after : P) : Type 0 where
     pub entered : List Entry
     pub grown : journal' ≡ journal ++ entered
-    pub told : IsTold by (requests entered) before after
+    pub told : IsToldInOrder by (requests entered) before after

@@ -39,8 +39,8 @@ abbrev pub of_sender_thread : ℕ × Request → ℕ × Request
 of_sender_thread p = (p.0 + 1, p.1)
 
 -- what was taken, oldest first, each request with its sender's thread
-abbrev pub asked : List (Parcel Request) → List (ℕ × Request)
-asked taken = map of_sender_thread (items_in taken)
+abbrev pub requests_taken : List (Parcel Request) → List (ℕ × Request)
+requests_taken taken = map of_sender_thread (items_in taken)
 
 -- the request of an entry, with the thread that it names
 abbrev pub of_own_thread : Entry → ℕ × Request
@@ -61,12 +61,12 @@ IsHeldUnfit None room = Unit {0}
 IsHeldUnfit (Some p) room = IsUnfit p.0 p.1 room
 
 -- what holds of every worker
-pub record IsTied (w : WorkerView) : Type 0 where
+pub record IsTiedWorker (w : WorkerView) : Type 0 where
   -- from the tables at first on the journal has the codes of its places, and the manager the tables after it
   pub follows : Follows w.first w.journal w.manager.tables
   -- the journal's requests, then one that is held, are what was taken, in that order, and each in the journal is of its
   -- sender's thread
-  pub taken : asked w.receiver.taken ≡ map of_own_thread w.journal ++ in_hand w.held
+  pub taken : requests_taken w.receiver.taken ≡ map of_own_thread w.journal ++ in_hand w.held
   -- what was sent to thread k + 1, then what waits to be sent to it, is what the journal owes it
   pub sent : (k : ℕ) → put_to k w.out ≡ owed w.number (k + 1) w.journal
   -- a request that is held can't be carried out
@@ -88,7 +88,7 @@ abbrev pub Extends : List Entry → List Entry → Type 0
 Extends journal journal' = (more : List Entry) × (journal' ≡ journal ++ more)
 
 -- each thread's end was taken, and nothing is held
-pub record IsFinished (w : WorkerView) : Type 0 where
+pub record IsFinishedWorker (w : WorkerView) : Type 0 where
   pub held : w.held ≡ None
   pub waiting : w.out.waiting ≡ []
   pub ended : (s : ℕ) → s < w.manager.threads → has_ended s w.receiver.taken ≡ true

@@ -4,12 +4,12 @@ ghost use Rattle.std.specs.Prelude.{vec_len, vec_capacity};
 ghost use Rattle.xa_words.specs.declared.code.Code as Code;
 ghost use Rattle.xa_tables.specs.ManagerTables.{Tables};
 ghost use Rattle.xa_store.specs.Stores.{AreDurable};
-ghost use Rattle.xa_worker.specs.Journal.{entry_next, applied, completion_of};
-ghost use Rattle.xa_worker.specs.Outgoing.{Answers, Flushes, put_to};
+ghost use Rattle.xa_worker.specs.Journal.{entry_next, after_request, completion_of};
+ghost use Rattle.xa_worker.specs.Outgoing.{AnswersOrWaits, Flushes, put_to};
 ghost use Rattle.xa_worker.specs.WorkerSteps.{step_of};
 
 use crate::outbox::{MOST_WAITING, Outbox};
-use crate::step::Step;
+use crate::step::WorkerStep;
 use std::sync::Wait;
 use xa_store::{Store, settle_or_stop};
 use xa_tables::Manager;
@@ -70,7 +70,7 @@ pub(crate) fn carry_out<R: Wait, S: Store>(
     store: &mut S,
     out: &mut Outbox,
     request: Request,
-) -> Step
+) -> WorkerStep
     requires first { 0 < request.thread }
     requires last { request.thread ≤ manager.old.threads }
     requires lanes { manager.old.threads ≤ length out.old.senders }
@@ -78,10 +78,10 @@ pub(crate) fn carry_out<R: Wait, S: Store>(
     requires space { vec_len journal.old < vec_capacity journal.old }
     requires few { length out.old.waiting < MOST_WAITING }
     ensures late { result ≡ step_of manager.old.tables.shut }
-    ensures manager { manager.new ≡ applied request manager.old }
+    ensures manager { manager.new ≡ after_request request manager.old }
     ensures journal { journal.new.items ≡ journal.old.items ++ entry_next request manager.old.tables ∷ [] }
     ensures space { vec_capacity journal.new ≡ vec_capacity journal.old }
-    ensures out { Answers (S.owing store.new) out.old (request.thread - 1) (completion_of number
+    ensures out { AnswersOrWaits (S.owing store.new) out.old (request.thread - 1) (completion_of number
         (entry_next request manager.old.tables)) out.new }
     ensures known { S.knows store.old manager.old.tables → S.knows store.new manager.new.tables }
     ensures settled { S.knows store.old manager.old.tables → S.owing store.new ≡ false
@@ -89,9 +89,9 @@ pub(crate) fn carry_out<R: Wait, S: Store>(
     ensures crash { (K : Tables) → S.may_leave store.new K → S.may_leave store.old K }
 {
     let step = if manager.is_shut() {
-        Step::Late
+        WorkerStep::Late
     } else {
-        Step::Did
+        WorkerStep::Did
     };
     let place = journal.len();
     enter(journal, request);

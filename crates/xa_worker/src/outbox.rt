@@ -3,7 +3,7 @@ ghost use Rattle.std.specs.Prelude.{◌≡◌, ◌↔◌, ◌<◌, ◌≤◌, �
 ghost use Rattle.std.specs.Prelude.{vec_capacity};
 ghost use Rattle.std.specs.VecDeque.{deque_capacity};
 ghost use Rattle.xa_lane.specs.Senders.{at_place, with_item, with_full, but_full};
-ghost use Rattle.xa_worker.specs.Outgoing.{Answers, FindsFull, Flushes, SendsFirst, put_to};
+ghost use Rattle.xa_worker.specs.Outgoing.{AnswersOrWaits, FindsFull, Flushes, SendsFirst, put_to};
 
 use crossbeam_utils::Backoff;
 use std::collections::VecDeque;
@@ -106,7 +106,7 @@ impl Outbox {
     )
         requires place { place < length self.old.senders }
         requires room { length self.old.waiting < MOST_WAITING }
-        ensures { Answers owing self.old place completion self.new }
+        ensures { AnswersOrWaits owing self.old place completion self.new }
     {
         if owing || self.is_waiting() || !offer_at(rt, &mut self.senders, place, completion) {
             self.waiting.push_back_reserved((place, completion));

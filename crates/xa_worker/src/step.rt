@@ -2,7 +2,7 @@
 
 /// What a worker's step did.
 #[derive(Clone, Copy, Debug, PartialEq, Eq)]
-pub enum Step {
+pub enum WorkerStep {
     /// One request was taken and carried out, be it the first Shut.
     Did,
     /// One request was taken that stands after a Shut: it changed no table, and is answered

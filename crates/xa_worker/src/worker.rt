@@ -1,6 +1,6 @@
 //! One manager's worker.
 ghost use Rattle.std.specs.Prelude.{◌≡◌, ◌↔◌, ◌≤◌, [], length, false, All, IsTrue};
-ghost use Rattle.xa_worker.specs.Workers.{IsTied, IsFinished, SameWorker, new_worker};
+ghost use Rattle.xa_worker.specs.Workers.{IsTiedWorker, IsFinishedWorker, SameWorker, new_worker};
 ghost use Rattle.xa_worker.specs.WorkerSteps.{HasWay, IsBlocked, Paces, Stepped, Takes};
 ghost use Rattle.xa_worker.specs.Outgoing.{Offers};
 ghost use Rattle.xa_worker.specs.Stored.{IsStored};
@@ -14,7 +14,7 @@ use crate::done::{DoneWorker, WorkerEnds};
 use crate::outbox::{Outbox, end_all};
 use crate::pace::Pace;
 use crate::parts::WorkerParts;
-use crate::step::Step;
+use crate::step::WorkerStep;
 use http_server::Log;
 use std::marker::Model;
 use std::sync::Wait;
@@ -109,7 +109,6 @@ impl Worker {
         requires taken { receiver.taken ≡ [] }
         requires sent { All (λ s. s.sent ≡ []) senders.items }
         ensures new { result ≡ new_worker parts.number manager receiver senders.items }
-        ensures tied { IsTied result }
     {
         let WorkerParts {
             number,
@@ -131,6 +130,14 @@ impl Worker {
         }
     }
 
+    /// What holds of every worker: its journal has the codes of its places, and says what was taken and what is owed to
+    /// each thread. A law: nothing is done.
+    pub fn is_tied(&self)
+        ensures { IsTiedWorker self.now }
+    {
+        let _inside = &self.number;
+    }
+
     /// The number of its manager, from 1.
     pub fn manager(&self) -> u32
         ensures { result ≡ self.now.number }
@@ -146,17 +153,21 @@ impl Worker {
     /// once for all of them, where nothing is there to be taken, or 64 wait, or it can be told of no more. `Empty` is
     /// answered only where a take of this call was answered `Empty`, and `Blocked` only where an offer of this call was
     /// answered `Full` or a request is held. Where the store fails it never returns.
-    pub fn step<R: Wait, P: Pace, S: Store>(&mut self, rt: &R, pace: &mut P, store: &mut S) -> Step
+    pub fn step<R: Wait, P: Pace, S: Store>(
+        &mut self,
+        rt: &R,
+        pace: &mut P,
+        store: &mut S,
+    ) -> WorkerStep
         ensures step { Stepped (S.owing store.old) (S.owing store.new) self.old result self.new }
         ensures same { SameWorker self.old self.new }
-        ensures tied { IsTied self.new }
         ensures seat { seat_of_worker self.new ≡ seat_of_worker self.old }
         ensures paced { Paces P.told self.old.journal self.new.journal pace.old pace.new }
         ensures stored { IsStored (S.knows store.old) (S.may_leave store.old) self.old
             → IsStored (S.knows store.new) (S.may_leave store.new) self.new }
     {
         if !self.make_way(rt, store) {
-            return Step::Blocked;
+            return WorkerStep::Blocked;
         }
         self.take_one(rt, pace, store)
     }
@@ -169,7 +180,6 @@ impl Worker {
         ensures may { IsTrue result → HasWay (S.owing store.new) self.new }
         ensures blocked { result ≡ false → IsBlocked self.old self.new }
         ensures same { SameWorker self.old self.new }
-        ensures tied { IsTied self.new }
         ensures stored { IsStored (S.knows store.old) (S.may_leave store.old) self.old
             → IsStored (S.knows store.new) (S.may_leave store.new) self.new }
     {
@@ -181,11 +191,15 @@ impl Worker {
 
     // Takes one thing from the lane of requests, if one is there.
     #[inline(always)]
-    fn take_one<R: Wait, P: Pace, S: Store>(&mut self, rt: &R, pace: &mut P, store: &mut S) -> Step
+    fn take_one<R: Wait, P: Pace, S: Store>(
+        &mut self,
+        rt: &R,
+        pace: &mut P,
+        store: &mut S,
+    ) -> WorkerStep
         requires { HasWay (S.owing store.old) self.old }
         ensures takes { Takes (S.owing store.new) self.old result self.new }
         ensures same { SameWorker self.old self.new }
-        ensures tied { IsTied self.new }
         ensures paced { Paces P.told self.old.journal self.new.journal pace.old pace.new }
         ensures stored { IsStored (S.knows store.old) (S.may_leave store.old) self.old
             → IsStored (S.knows store.new) (S.may_leave store.new) self.new }
@@ -195,17 +209,17 @@ impl Worker {
                 if store.owes() {
                     send_settled(rt, &self.manager, store, &mut self.out);
                 }
-                Step::Empty
+                WorkerStep::Empty
             }
             Some(parcel) => match &parcel.item {
                 None => {
                     self.ended[parcel.from] = true;
-                    Step::EndSeen
+                    WorkerStep::EndSeen
                 }
                 Some(request) => {
                     if request.thread as usize != parcel.from + 1 || self.manager.room() == 0 {
                         self.held = Some((parcel.from, *request));
-                        return Step::Blocked;
+                        return WorkerStep::Blocked;
                     }
                     pace.before(rt, request);
                     let number = self.number;
@@ -224,7 +238,7 @@ impl Worker {
     }
 
     fn is_finished(&self) -> bool
-        ensures { IsTrue result ↔ IsFinished self.now }
+        ensures { IsTrue result ↔ IsFinishedWorker self.now }
     {
         self.held.is_none() && !self.out.is_waiting() && are_all(&self.ended, self.out.len())
     }
@@ -250,8 +264,8 @@ impl Worker {
                 break;
             }
             match worker.step(rt, pace, store) {
-                Step::Empty | Step::Blocked => thread::yield_now(),
-                Step::Did | Step::Late | Step::EndSeen => {}
+                WorkerStep::Empty | WorkerStep::Blocked => thread::yield_now(),
+                WorkerStep::Did | WorkerStep::Late | WorkerStep::EndSeen => {}
             }
         }
         settle_owed(rt, &worker.manager, store);
@@ -260,7 +274,7 @@ impl Worker {
 
     // Puts the end marks of its lanes.
     fn end<R: Wait>(self, rt: &R) -> DoneWorker
-        requires { IsFinished self }
+        requires { IsFinishedWorker self }
         ensures same { SameServed self result }
         ensures manager { result.manager ≡ self.manager }
         ensures journal { result.journal ≡ self.journal }

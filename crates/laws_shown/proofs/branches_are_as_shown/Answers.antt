@@ -10,12 +10,20 @@ returns c =
     let opens = c.settled_journals_follow_the_tables.ensures.some in
     record {
       decisions = λ s b o tells commit done before l after old new place shows alone.
-          decided_as_shown l.task.thread commit done old new (decided_so o.settled l commit done old new shows place.takes) law opens o.settled tells.agree (place_adds place) alone;
+          decided_as_shown l.task.thread commit done old new
+          (decided_so o.settled l commit done old new shows place.takes) law opens o.settled tells.agree
+          (place_adds place) alone;
       journals = λ s b o tells commit done before l after old new place shows alone.
-          decided_counts l.task.thread commit done old new (decided_so o.settled l commit done old new shows place.takes) law opens o.settled tells.agree (place_adds place) alone;
+          decided_counts l.task.thread commit done old new
+          (decided_so o.settled l commit done old new shows place.takes) law opens o.settled tells.agree
+          (place_adds place) alone;
       lines = λ s b o tells commit done before l after is shows named.
-          let (old, new, place) = places o.steps o.answers o.settled l.task.thread (part_at b l.task.thread) (tells.carried l.task.thread) before l after is in
+          let (old, new, place) =
+          places o.steps o.answers o.settled l.task.thread (part_at b l.task.thread) (tells.carried l.task.thread)
+          before l after is in
           let shown =
-          decided_counts l.task.thread commit done old new (decided_so o.settled l commit done old new shows place.takes) law opens o.settled tells.agree (place_adds place) (left_alone s b o tells commit before l after old new place named) in
+          decided_counts l.task.thread commit done old new
+          (decided_so o.settled l commit done old new shows place.takes) law opens o.settled tells.agree
+          (place_adds place) (left_alone s b o tells commit before l after old new place named) in
           (old, new, place, shown.0, shown.1);
     }

@@ -1,15 +1,15 @@
 //! A crowded day: eight tellers over eight stores, of which one is shut while they are at work.
 use super::{NAMES, account_of, amount_of, is_committed, is_own, plan_of, start_of};
+use demo_bank::{Teller, Transfer};
 use std::alloc::Global;
 use std::process::Abort;
 use std::sync::Wait;
-use demo_bank::{Teller, Transfer};
 use xa_calls::native;
 use xa_crew::laws::idles_go_on;
 use xa_crew::{Client, run_clients};
 use xa_desk::laws::desks_go_on;
 use xa_desk::{Desk, Idle};
-use xa_driver::Ending;
+use xa_driver::{CommitOutcome, Ending};
 use xa_log::MemoryLog;
 use xa_switch::Settled;
 use xa_words::{Key, Op, RmOp, TMNOFLAGS};
@@ -97,7 +97,7 @@ fn delta_at(transfer: &Transfer, store: u32) -> i64 {
 
 // Adds what an outcome says of the store's account.
 fn tell(told: &mut Told, store: u32, transfer: &Transfer, outcome: &WorkOutcome) {
-    let WorkOutcome::Decided(done) = outcome else {
+    let WorkOutcome::Commit(CommitOutcome::Decided(done)) = outcome else {
         return;
     };
     let place = if store == transfer.from.min(transfer.to) {

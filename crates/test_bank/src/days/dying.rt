@@ -4,12 +4,13 @@ use super::resolving::resolve_by;
 use super::{
     FULL, NAMES, START, STORES, account_of, amount_of, plan_of, start_of, sum_of, teller_of,
 };
+use demo_bank::{Day, DiesAt, Teller, run_day};
 use std::alloc::Global;
 use std::process::Abort;
 use std::sync::Wait;
 use std::thread::Threads;
-use demo_bank::{Day, DiesAt, Teller, run_day};
 use xa_crew::{Attended, Run};
+use xa_driver::CommitOutcome;
 use xa_log::{DecisionRecords, MemoryLog};
 use xa_switch::Settled;
 use xa_words::{Code, Death, Key, Tran, Xid};
@@ -77,11 +78,10 @@ fn was_made(
     place: u32,
 ) -> bool {
     match outcome {
-        WorkOutcome::Decided(done) => done.commit,
-        WorkOutcome::Died { at: _, known: _ } => {
+        WorkOutcome::Commit(CommitOutcome::Died { .. }) => {
             teller.has(&tran_of(rt, thread, place)).is_some()
         }
-        WorkOutcome::Refused(_) | WorkOutcome::Undecided(_) => false,
+        _ => outcome.is_to_commit(),
     }
 }
 
@@ -141,7 +141,11 @@ fn died_there(rt: &impl Abort, clients: &[Attended<Teller<MemoryLog>>], deaths: 
         if before < 2 {
             assert_eq!(rt; outcomes.len(), PLACES[before].saturating_add(1));
             assert!(rt;
-                matches!(last, Some(WorkOutcome::Died { at, known: _ }) if *at == deaths[before])
+                matches!(
+                    last,
+                    Some(WorkOutcome::Commit(CommitOutcome::Died { at, known: _ }))
+                        if *at == deaths[before]
+                )
             );
         } else {
             assert!(rt; last.is_some_and(|outcome| !outcome.has_died()));

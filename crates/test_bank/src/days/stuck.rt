@@ -1,7 +1,7 @@
 //! Days on which tellers lack places, handles or requests: nobody stays associated with a branch that was given up.
 use super::{STORES, day_of, own_transfers_commit, plan_of};
-use std::process::Abort;
 use demo_bank::Day;
+use std::process::Abort;
 use xa_log::MemoryLog;
 use xa_switch::{Plan, Settled};
 use xa_words::{Code, Op};

@@ -14,7 +14,7 @@ use xa_crew::{Client, Run, run_clients};
 use xa_crew_again::{ClientAgain, run_clients_again_in_turns};
 use xa_desk::laws::desks_go_on;
 use xa_desk::{Desk, Idle};
-use xa_driver::{Branch, Resolved, commit_all, commit_until, may_commit, may_resolve, resolve};
+use xa_driver::{Branch, Resolved, commit, may_commit, may_resolve, resolve};
 use xa_log::{DecisionRecords, MemoryLog};
 use xa_scan::Scan;
 use xa_switch::{Again, Plan, Settled};
@@ -94,12 +94,9 @@ fn pay<R: Wait, I: Idle>(
     if !may_commit(desk, log, &branches) {
         return None;
     }
-    if dies {
-        let known = commit_until(rt, alloc, desk, log, &branches, Death::Decided, idle).ok()?;
-        return Some(known.commit);
-    }
-    let done = commit_all(rt, alloc, desk, log, &branches, idle).ok()?;
-    Some(done.commit)
+    let death = dies.then_some(Death::Decided);
+    let outcome = commit(rt, alloc, desk, log, &branches, death, idle).ok()?;
+    Some(outcome.is_to_commit())
 }
 
 // Ends what is left, where that can be.

@@ -13,15 +13,15 @@ use std::process::Abort;
 use std::sync::atomic::{AtomicBool, Ordering};
 use std::sync::{Arc, Wait};
 use std::thread::Threads;
+use test_support::{comes, work};
 use xa_calls::{RmOp, native};
 use xa_crew::laws::idles_go_on;
 use xa_crew::{Attended, Client, Run, run_clients};
 use xa_desk::laws::desks_go_on;
 use xa_desk::{Desk, Idle};
-use xa_driver::{Branch, Done, Ending, Outcome, commit_all, may_commit};
+use xa_driver::{Branch, CommitOutcome, Done, Ending, Outcome, commit, may_commit};
 use xa_log::{CommitRecord, DecisionLog, DecisionRecords, LogFault, MemoryLog};
 use xa_switch::{Again, Plan, Settled};
-use test_support::{comes, work};
 use xa_words::{Code, Delta, Key, ManagerSet, TMNOFLAGS, Tran, Xid};
 use xa_worker::Free;
 
@@ -110,7 +110,7 @@ fn leg(m: u32, bqual: &[u8], change: i64) -> Option<(Branch, RmOp)> {
 }
 
 // Works for three branches, whose additions sum to 0, and commits them where that may be done.
-fn commit<R: Wait, I: Idle>(
+fn commit_three<R: Wait, I: Idle>(
     rt: &R,
     alloc: Global,
     desk: &mut Desk,
@@ -129,13 +129,17 @@ fn commit<R: Wait, I: Idle>(
     let at_first = work(rt, desk, first.m, first.xid, less, idle);
     let at_second = work(rt, desk, second.m, second.xid, more, idle);
     let at_third = work(rt, desk, third.m, third.xid, as_much, idle);
-    let branches = [first, second, third];
-    if !(at_first && at_second && at_third && may_commit(desk, log, branches.as_slice())) {
+    if !(at_first && at_second && at_third) {
         return None;
     }
-    match commit_all(rt, alloc, desk, log, branches.as_slice(), idle) {
-        Ok(done) => Some(done),
-        Err(_) => None,
+    let three = [first, second, third];
+    let branches = three.as_slice();
+    if !may_commit(desk, log, branches) {
+        return None;
+    }
+    match commit(rt, alloc, desk, log, branches, None, idle) {
+        Ok(CommitOutcome::Decided(done)) => Some(done),
+        _ => None,
     }
 }
 
@@ -153,7 +157,7 @@ impl Committer {
         ensures kept { AllKept desk.old → AllKept desk.new }
         ensures idled { I.leads idle.old idle.new }
     {
-        let done = commit(rt, self.alloc, desk, &mut self.log, idle);
+        let done = commit_three(rt, self.alloc, desk, &mut self.log, idle);
         self.done = done;
     }
 }

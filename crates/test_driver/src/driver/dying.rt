@@ -1,6 +1,7 @@
 //! A coordinator that dies at each point of a commit: what it left is resolved by its log, all of it or nothing. By
 //! what the calls promise and one law, and with every premise of it met.
-ghost use Rattle.std.specs.Prelude.{◌≡◌, ◌≤◌, ℕ, ◌∷◌, [], length, map, refl, true, IfOk};
+ghost use Rattle.xa_driver.specs.Outcomes.{endings_known};
+ghost use Rattle.std.specs.Prelude.{◌≡◌, ◌≤◌, ℕ, ◌∷◌, [], length, map, refl, true, IfSome};
 ghost use Rattle.std.specs.List.{All};
 ghost use Rattle.std.proofs.Common.{◌∙◌};
 ghost use Rattle.xa_tables.specs.Prepared.{is_heur};
@@ -14,27 +15,28 @@ ghost use Rattle.laws_commit.specs.Cut.{IsCut};
 ghost use Rattle.laws_commit.specs.Outcomes.{AreLeftOrDecided};
 ghost use Rattle.xa_driver.specs.Deaths.{sent_so_far};
 ghost use Rattle.laws_commit.specs.Presumed.{CountsByTheLog, EndsByTheLog};
-ghost use Rattle.laws_commit.specs.Resolution.{CutCall, ResolveCall, cut_call, cuts, resolve_call, resolves, with_use};
+ghost use Rattle.laws_commit.specs.Calls.{CommitCall, ResolveCall, commit_call, resolve_call};
+ghost use Rattle.laws_commit.specs.Resolution.{commits, resolves, with_use};
 ghost use Rattle.xa_driver.specs.Trace.{MayCommit};
 
 use super::openings::{again, open, settle_all};
 use super::pieces::{end, run_all, work};
 use super::resolved::{Recovered, recover};
 use super::{Opened, branch, key, plan_of};
+use laws_commit::{
+    commits_are_cuts, logs_turn_out_as_they_are_read, next_openings_resolve,
+    others_leave_the_branches, presumed_transactions_count_by_the_log,
+    presumed_transactions_have_one_outcome, rounds_are_cuts, stages_follow,
+};
 use std::alloc::Global;
 use std::process::Abort;
 use std::snapshot::Snapshot;
 use std::sync::Wait;
-use laws_commit::{
-    deaths_are_cuts, next_openings_resolve, others_leave_the_branches,
-    presumed_transactions_count_by_the_log, presumed_transactions_have_one_outcome,
-    rounds_are_cuts, stages_follow,
-};
 use xa_crew::Turns;
 use xa_desk::laws::desks_go_on;
 use xa_desk::{Desk, Idle};
-use xa_driver::{Branch, CommitFault, Done, Resolved, begin_prepare, commit_until, may_commit};
-use xa_log::MemoryLog;
+use xa_driver::{Branch, CommitOutcome, LastKnown, Resolved, begin_prepare, commit, may_commit};
+use xa_log::{DecisionLog, MemoryLog, TrialLog};
 use xa_switch::{Again, Plan, Settled};
 use xa_words::{Code, Death, Op, Xid};
 
@@ -50,17 +52,19 @@ pub(super) enum Dies {
 }
 
 // Commits the branches until those that were decided heuristically are told to forget it, and dies then.
-fn commit_until_forgetting<R: Wait, I: Idle>(
+fn commit_until_forgetting<R: Wait, L: DecisionLog, I: Idle>(
     rt: &R,
     alloc: Global,
     desk: &mut Desk,
-    log: &mut MemoryLog,
+    log: &mut L,
     branches: &[Branch],
     idle: &mut I,
-) -> Result<Done, CommitFault>
-    requires { MayCommit desk.old log.old.state branches.now }
-    ensures cut { IfOk result (λ known. IsCut branches.now desk.old desk.new.ledgers log.old.state log.new.state
-        known.endings.items) }
+) -> Option<LastKnown>
+    requires known { L.knows log.old }
+    requires may { MayCommit desk.old (L.state log.old) branches.now }
+    ensures cut { IfSome result (λ known. (t : ℕ) → IsCut (commit_call t branches.now desk.old desk.new.ledgers
+        (L.state log.old) (L.state log.new) (endings_known known))) }
+    ensures known { IfSome result (λ known. L.knows log.new) }
     ensures goes_on { GoesOn desk.old desk.new }
     ensures idled { I.leads idle.old idle.new }
 {
@@ -68,65 +72,77 @@ fn commit_until_forgetting<R: Wait, I: Idle>(
     stages_follow();
     rounds_are_cuts();
     others_leave_the_branches();
-    let preparing = begin_prepare(alloc, desk, log, branches)?;
+    let Ok(preparing) = begin_prepare(alloc, desk, branches) else {
+        return None;
+    };
     let prepared = preparing.finish(rt, desk, idle);
     let decided = match prepared.decide(log) {
         Ok(decided) => decided,
-        Err(prepared) => return Err(CommitFault::Undecided(prepared.let_go().votes)),
+        Err(prepared) => {
+            let _ = prepared.let_go();
+            return None;
+        }
     };
     let telling = decided.begin_telling(desk);
     let told = telling.finish(rt, desk, idle);
     let mut forgetting = told.begin_forgetting(desk);
     forgetting.round.send_next(rt, desk, idle);
     forgetting.round.send_next(rt, desk, idle);
-    Ok(forgetting.leave(desk))
+    Some(LastKnown::Told(forgetting.leave(desk)))
 }
 
 // Commits the branches until the coordinator dies, and tells what it knew then.
-fn commit_until_it_dies<R: Wait, I: Idle>(
+fn commit_until_it_dies<R: Wait, L: DecisionLog, I: Idle>(
     rt: &R,
     alloc: Global,
     desk: &mut Desk,
-    log: &mut MemoryLog,
+    log: &mut L,
     branches: &[Branch],
     dies: Dies,
     idle: &mut I,
-) -> Result<Done, CommitFault>
-    requires { MayCommit desk.old log.old.state branches.now }
-    ensures cut { IfOk result (λ known. IsCut branches.now desk.old desk.new.ledgers log.old.state log.new.state
-        known.endings.items) }
+) -> Option<LastKnown>
+    requires known { L.knows log.old }
+    requires may { MayCommit desk.old (L.state log.old) branches.now }
+    ensures cut { IfSome result (λ known. (t : ℕ) → IsCut (commit_call t branches.now desk.old desk.new.ledgers
+        (L.state log.old) (L.state log.new) (endings_known known))) }
+    ensures known { IfSome result (λ known. L.knows log.new) }
     ensures goes_on { GoesOn desk.old desk.new }
     ensures idled { I.leads idle.old idle.new }
 {
-    deaths_are_cuts();
+    commits_are_cuts();
+    logs_turn_out_as_they_are_read::<L>();
     match dies {
-        Dies::At(death) => commit_until(rt, alloc, desk, log, branches, death, idle),
+        Dies::At(death) => match commit(rt, alloc, desk, log, branches, Some(death), idle) {
+            Ok(CommitOutcome::Died { at: _, known }) => Some(known),
+            _ => None,
+        },
         Dies::Forgetting => commit_until_forgetting(rt, alloc, desk, log, branches, idle),
     }
 }
 
 // A commit whose coordinator died: its desk and its log before it and after it, and what it knew.
 #[derive(Drop)]
-pub(super) struct Died {
+pub(super) struct Died<L> {
     before: Snapshot<Desk>,
     after: Snapshot<Desk>,
-    log_before: Snapshot<MemoryLog>,
-    log_after: Snapshot<MemoryLog>,
-    known: Done,
+    log_before: Snapshot<L>,
+    log_after: Snapshot<L>,
+    known: LastKnown,
 }
 
 // Commits the branches up to the death of the coordinator.
-pub(super) fn die<R: Wait + Abort, I: Idle>(
+pub(super) fn die<R: Wait + Abort, L: DecisionLog, I: Idle>(
     rt: &R,
     alloc: Global,
     desk: &mut Desk,
-    log: &mut MemoryLog,
+    log: &mut L,
     branches: &[Branch],
     dies: Dies,
     idle: &mut I,
-) -> Died
-    ensures cut { IsCut branches.now result.before.value result.after.value.ledgers result.log_before.value.state
-        result.log_after.value.state result.known.endings.items }
+) -> Died<L>
+    ensures cut { (t : ℕ) → IsCut (commit_call t branches.now result.before.value result.after.value.ledgers
+        (L.state result.log_before.value) (L.state result.log_after.value) (endings_known result.known)) }
+    ensures known { L.knows log.new }
     ensures few { length result.before.value.ledgers ≤ 8 }
     ensures after { result.after.value ≡ desk.new }
     ensures log { result.log_after.value ≡ log.new }
@@ -138,7 +154,7 @@ pub(super) fn die<R: Wait + Abort, I: Idle>(
     }
     let _managers = desk.managers();
     let (before, log_before) = (Snapshot::of(desk), Snapshot::of(log));
-    let Ok(known) = commit_until_it_dies(rt, alloc, desk, log, branches, dies, idle) else {
+    let Some(known) = commit_until_it_dies(rt, alloc, desk, log, branches, dies, idle) else {
         panic!(rt; "memory");
     };
     Died {
@@ -227,29 +243,31 @@ impl Idle for Deciding {
 
 // A settled opening, and the commit that died in it.
 #[derive(Drop)]
-struct Ended {
+struct Ended<L> {
     settled: Settled,
     thread: u32,
-    died: Died,
+    died: Died<L>,
 }
 
 // The first thread works for two branches, and dies as it commits them, while manager 2 decides its branch, if it is
 // to. Then the opening ends and is settled. Nobody but the first thread names a branch, but for that decision.
-fn die_and_settle<R: Wait + Abort>(
+fn die_and_settle<R: Wait + Abort, L: DecisionLog>(
     rt: &R,
     alloc: Global,
     opened: Opened,
-    log: &mut MemoryLog,
+    log: &mut L,
     branches: &[Branch; 2],
     dies: Dies,
     decision: Option<bool>,
-) -> Ended
+) -> Ended<L>
     requires opened { ComeFromOpenings (seat_of_desk opened.first ∷ seat_of_desk opened.second ∷ [])
         (map seat_of_worker opened.workers) }
     requires fresh { (m : ℕ) → (ledger opened.second.ledgers m).sent ≡ [] }
     ensures settled { IsSettled result.settled }
-    ensures cut { IsCut branches.now result.died.before.value result.died.after.value.ledgers
-        result.died.log_before.value.state result.died.log_after.value.state result.died.known.endings.items }
+    ensures cut { IsCut (commit_call result.thread branches.now result.died.before.value
+        result.died.after.value.ledgers (L.state result.died.log_before.value) (L.state result.died.log_after.value)
+        (endings_known result.died.known)) }
+    ensures known { L.knows log.new }
     ensures grown { HaveGrown result.died.after.value.ledgers (ledgers_of result.settled result.thread) }
     ensures own { AreLeftOrDecided result.settled result.thread branches.now
         (sent_so_far result.died.before.value.ledgers) (sent_so_far result.died.after.value.ledgers) }
@@ -293,37 +311,37 @@ fn die_and_settle<R: Wait + Abort>(
 
 // Both openings, of the first of which only proofs see what it was settled to.
 #[derive(Drop)]
-struct Story {
+struct Story<L> {
     first: Snapshot<Settled>,
     thread: u32,
-    died: Died,
+    died: Died<L>,
     last: Recovered,
-    log: Snapshot<MemoryLog>,
+    log: Snapshot<L>,
 }
 
 // What a coordinator left that died is resolved in the next opening. Every premise of the laws is met; so all branches
 // that voted to commit end by the log's record, and their additions count by it.
-fn die_and_resolve<R: Wait + Abort>(
+fn die_and_resolve<R: Wait + Abort, L: DecisionLog + Drop>(
     rt: &R,
     alloc: Global,
     opened: Opened,
     again: &Again,
-    log: MemoryLog,
+    log: L,
     branches: &[Branch; 2],
     dies: Dies,
     decision: Option<bool>,
-) -> Story
+) -> Story<L>
     requires opened { ComeFromOpenings (seat_of_desk opened.first ∷ seat_of_desk opened.second ∷ [])
         (map seat_of_worker opened.workers) }
     requires fresh { (m : ℕ) → (ledger opened.second.ledgers m).sent ≡ [] }
-    ensures { let k : CutCall = cut_call result.thread branches.now result.died.before.value
-        result.died.after.value.ledgers result.died.log_before.value.state result.died.log_after.value.state
-        result.died.known.endings.items in
+    ensures { let k : CommitCall = commit_call result.thread branches.now result.died.before.value
+        result.died.after.value.ledgers (L.state result.died.log_before.value) (L.state result.died.log_after.value)
+        (endings_known result.died.known) in
         let q : ResolveCall = resolve_call result.last.thread result.last.ended.scan.value
         result.last.ended.before.value.ledgers result.last.ended.after.value.ledgers
-        result.last.ended.told.outcomes.items result.log.value.state.records in
-        EndsByTheLog k (with_use result.first.value (cuts k)) (with_use result.last.settled (resolves q) ∷ [])
-        × CountsByTheLog k (with_use result.first.value (cuts k))
+        result.last.ended.told.outcomes.items (L.records result.log.value) in
+        EndsByTheLog k (with_use result.first.value (commits k)) (with_use result.last.settled (resolves q) ∷ [])
+        × CountsByTheLog k (with_use result.first.value (commits k))
         (with_use result.last.settled (resolves q) ∷ []) }
 {
     next_openings_resolve();
@@ -347,10 +365,10 @@ fn die_and_resolve<R: Wait + Abort>(
 }
 
 // What the next opening's resolve does, and the values after it.
-fn resolves<R: Wait + Abort>(
+fn resolves<R: Wait + Abort, L: DecisionLog + Drop>(
     rt: &R,
     alloc: Global,
-    log: MemoryLog,
+    log: L,
     dies: Dies,
     decision: Option<bool>,
     outcomes: &[(u32, bool, Code)],
@@ -431,7 +449,7 @@ fn what_a_dead_coordinator_left_is_resolved_by_its_log(rt: HostRuntime) {
 #[test]
 fn what_a_log_did_not_take_is_rolled_back(rt: HostRuntime) {
     let alloc = rt.alloc();
-    let failing = || MemoryLog::failing_at(alloc, 1);
+    let failing = || TrialLog::new(MemoryLog::new(alloc)).failing_at(1);
     let decided = Dies::At(Death::Decided);
     resolves(
         &rt,

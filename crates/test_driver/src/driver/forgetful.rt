@@ -5,7 +5,7 @@ ghost use Rattle.xa_desk.specs.DeskViews.{ledger};
 ghost use Rattle.xa_switch.specs.Belonging.{ComeFromOpenings, seat_of_desk, seat_of_worker};
 
 use super::openings::{again, open};
-use super::pieces::{commit, work};
+use super::pieces::{make, work};
 use super::resolved::{Crashed, commit_and_crash, recover};
 use super::{Opened, branch, plan_of};
 use std::alloc::Global;
@@ -14,7 +14,8 @@ use std::sync::Wait;
 use xa_crew::Turns;
 use xa_desk::Desk;
 use xa_driver::{
-    Branch, Done, Outcome, Resolved, commit_until, forget_acknowledged, forget_resolved, may_commit,
+    Branch, CommitOutcome, Done, LastKnown, Outcome, Resolved, commit, forget_acknowledged,
+    forget_resolved, may_commit,
 };
 use xa_log::{CommitRecord, DecisionLog, DecisionRecords, MemoryLog};
 use xa_switch::Plan;
@@ -42,7 +43,7 @@ fn a_record_goes_once_all_have_acknowledged(rt: HostRuntime) {
     work(&rt, &mut opened.first, &branches[0], &mut opened.workers);
     work(&rt, &mut opened.first, &branches[1], &mut opened.workers);
     let mut log = MemoryLog::new(alloc);
-    let made = commit(
+    let made = make(
         &rt,
         alloc,
         &mut opened.first,
@@ -82,11 +83,19 @@ fn commit_and_die<R: Wait + Abort>(
     branches: &[Branch],
     death: Death,
     idle: &mut Turns,
-) -> Done {
+) -> LastKnown {
     if !may_commit(desk, log, branches) {
         panic!(rt; "these branches are refused");
     }
-    let Ok(known) = commit_until(rt, alloc, desk, log, branches, death, idle) else {
+    let Ok(CommitOutcome::Died { at: _, known }) = commit(
+        rt,
+        alloc,
+        desk,
+        log,
+        branches,
+        Some(death),
+        idle,
+    ) else {
         panic!(rt; "memory");
     };
     known
@@ -114,8 +123,8 @@ fn dies_and_keeps_its_record<R: Wait + Abort>(rt: &R, alloc: Global, opened: Ope
         death,
         &mut workers,
     );
-    assert!(rt; known.logged && !known.is_acknowledged());
-    forget_acknowledged(&mut log, &tran, &known);
+    // No ending is known, so there is nothing by which the record could be forgotten.
+    assert!(rt; matches!(&known, LastKnown::Decided { decision, .. } if decision.logged));
     assert!(rt; log.has(&tran).is_some());
 }
 

@@ -3,25 +3,25 @@ use super::{Opened, branch, tells};
 use std::alloc::Global;
 use std::process::Abort;
 use std::sync::Wait;
-use xa_driver::{Branch, Done, Ending, commit_until, may_commit};
-use xa_log::MemoryLog;
+use xa_driver::{Branch, CommitOutcome, Decision, Ending, LastKnown, commit, may_commit};
+use xa_log::{DecisionLog, MemoryLog, TrialLog};
 use xa_words::{Code, Death};
 
 // What a coordinator left that died: what it knew, how many requests of the commit each manager was sent, and how many
 // of them are in flight.
 #[derive(Drop)]
 struct Left {
-    known: Done,
+    known: LastKnown,
     sent: (u32, u32),
     in_flight: u32,
 }
 
 // The coordinator of a commit of these branches dies.
-fn die<R: Wait + Abort>(
+fn die<R: Wait + Abort, L: DecisionLog + Drop>(
     rt: &R,
     alloc: Global,
     opened: Opened,
-    mut log: MemoryLog,
+    mut log: L,
     branches: &[Branch; 2],
     death: Death,
 ) -> Left {
@@ -35,7 +35,15 @@ fn die<R: Wait + Abort>(
     }
     let (one, two, free) = (first.room(1), first.room(2), first.free());
     let idle = &mut workers;
-    let Ok(known) = commit_until(rt, alloc, &mut first, &mut log, branches, death, idle) else {
+    let Ok(CommitOutcome::Died { at: _, known }) = commit(
+        rt,
+        alloc,
+        &mut first,
+        &mut log,
+        branches,
+        Some(death),
+        idle,
+    ) else {
         panic!(rt; "memory");
     };
     Left {
@@ -51,10 +59,10 @@ fn less(rt: &impl Abort, before: u32, after: u32) -> u32 {
 }
 
 // The same, once the thread has worked for both branches: with these changes for the first, and with one for the other.
-fn die_after<R: Wait + Abort>(
+fn die_after<R: Wait + Abort, L: DecisionLog + Drop>(
     rt: &R,
     alloc: Global,
-    log: MemoryLog,
+    log: L,
     changes: &[i64],
     death: Death,
 ) -> Left {
@@ -73,19 +81,58 @@ fn asked(rt: &impl Abort, left: &Left, sent: (u32, u32), in_flight: u32) {
 
 const YES: [Code; 2] = [Code::Done, Code::Done];
 
+const LOGGED: Decision = Decision {
+    commit: true,
+    logged: true,
+};
+
+const ABORTED: Decision = Decision {
+    commit: false,
+    logged: false,
+};
+
+// These votes alone were known.
+fn voted(rt: &impl Abort, known: &LastKnown, votes: &[Code]) {
+    let LastKnown::Votes(told) = known else {
+        panic!(rt; "it was decided");
+    };
+    assert!(rt; told.as_slice() == votes);
+}
+
+// The decision was known, and these votes.
+fn decided(rt: &impl Abort, known: &LastKnown, decision: Decision, votes: &[Code]) {
+    let LastKnown::Decided {
+        decision: told,
+        votes: all,
+    } = known
+    else {
+        panic!(rt; "it wasn't decided, or all were told");
+    };
+    assert!(rt; *told == decision);
+    assert!(rt; all.as_slice() == votes);
+}
+
+// All were told to commit, and these endings were known.
+fn ended(rt: &impl Abort, known: &LastKnown, votes: &[Code], endings: &[Ending]) {
+    let LastKnown::Told(done) = known else {
+        panic!(rt; "no ending is known");
+    };
+    tells(rt, done, true, true, votes, endings);
+}
+
 #[test]
 fn votes_are_known_as_far_as_they_were_collected(rt: HostRuntime) {
     let alloc = rt.alloc();
-    for count in 0..4u32 {
+    for count in 0..4u8 {
         let log = MemoryLog::new(alloc);
         let left = die_after(&rt, alloc, log, &[1], Death::Preparing(count));
-        let collected = count.min(2);
+        let collected = u32::from(count.min(2));
         let votes = YES.get(..collected as usize).expect(&rt, "so many votes");
-        tells(&rt, &left.known, false, false, votes, &[]);
+        voted(&rt, &left.known, votes);
         asked(&rt, &left, (1, 1), 2u32.saturating_sub(collected));
     }
     let left = die_after(&rt, alloc, MemoryLog::new(alloc), &[1], Death::Prepared);
-    tells(&rt, &left.known, false, false, &YES, &[]);
+    voted(&rt, &left.known, &YES);
     asked(&rt, &left, (1, 1), 0);
 }
 
@@ -93,31 +140,31 @@ fn votes_are_known_as_far_as_they_were_collected(rt: HostRuntime) {
 fn a_decision_is_known_before_any_branch_hears_of_it(rt: HostRuntime) {
     let alloc = rt.alloc();
     let left = die_after(&rt, alloc, MemoryLog::new(alloc), &[1], Death::Decided);
-    tells(&rt, &left.known, true, true, &YES, &[]);
+    decided(&rt, &left.known, LOGGED, &YES);
     asked(&rt, &left, (1, 1), 0);
-    let failing = MemoryLog::failing_at(alloc, 1);
+    let failing = TrialLog::new(MemoryLog::new(alloc)).failing_at(1);
     let left = die_after(&rt, alloc, failing, &[1], Death::Decided);
-    tells(&rt, &left.known, false, false, &YES, &[]);
+    decided(&rt, &left.known, ABORTED, &YES);
     asked(&rt, &left, (1, 1), 0);
     // A vote against: nothing is logged.
     let left = die_after(&rt, alloc, MemoryLog::new(alloc), &[-6], Death::Decided);
     let votes = [Code::RbIntegrity, Code::Done];
-    tells(&rt, &left.known, false, false, &votes, &[]);
+    decided(&rt, &left.known, ABORTED, &votes);
     asked(&rt, &left, (1, 1), 0);
 }
 
 #[test]
 fn endings_are_known_once_all_were_told(rt: HostRuntime) {
     let alloc = rt.alloc();
-    for (count, in_flight) in [(0u32, 2u32), (1, 1), (2, 0), (8, 0)] {
+    for (count, in_flight) in [(0u8, 2u32), (1, 1), (2, 0), (8, 0)] {
         let log = MemoryLog::new(alloc);
         let left = die_after(&rt, alloc, log, &[1], Death::Telling(count));
-        tells(&rt, &left.known, true, true, &YES, &[]);
+        decided(&rt, &left.known, LOGGED, &YES);
         asked(&rt, &left, (2, 2), in_flight);
     }
     let left = die_after(&rt, alloc, MemoryLog::new(alloc), &[1], Death::Told);
     let endings = [Ending::Committed, Ending::Committed];
-    tells(&rt, &left.known, true, true, &YES, &endings);
+    ended(&rt, &left.known, &YES, &endings);
     asked(&rt, &left, (2, 2), 0);
 }
 
@@ -127,16 +174,16 @@ fn a_branch_that_only_read_is_not_told(rt: HostRuntime) {
     let alloc = rt.alloc();
     let votes = [Code::RdOnly, Code::Done];
     let left = die_after(&rt, alloc, MemoryLog::new(alloc), &[], Death::Preparing(1));
-    tells(&rt, &left.known, false, false, &votes[..1], &[]);
+    voted(&rt, &left.known, &votes[..1]);
     asked(&rt, &left, (1, 1), 1);
-    for (count, in_flight) in [(0u32, 1u32), (1, 0)] {
+    for (count, in_flight) in [(0u8, 1u32), (1, 0)] {
         let log = MemoryLog::new(alloc);
         let left = die_after(&rt, alloc, log, &[], Death::Telling(count));
-        tells(&rt, &left.known, true, true, &votes, &[]);
+        decided(&rt, &left.known, LOGGED, &votes);
         asked(&rt, &left, (1, 2), in_flight);
     }
     let left = die_after(&rt, alloc, MemoryLog::new(alloc), &[], Death::Told);
     let endings = [Ending::ReadOnly, Ending::Committed];
-    tells(&rt, &left.known, true, true, &votes, &endings);
+    ended(&rt, &left.known, &votes, &endings);
     asked(&rt, &left, (1, 2), 0);
 }

@@ -5,7 +5,7 @@ use std::process::Abort;
 use std::sync::Wait;
 use xa_crew::Turns;
 use xa_desk::{Desk, Idle};
-use xa_driver::{Branch, Done, Ending, commit_all, may_commit};
+use xa_driver::{Branch, CommitOutcome, Done, Ending, commit, may_commit};
 use xa_log::MemoryLog;
 use xa_switch::Plan;
 use xa_words::{Code, Op};
@@ -81,9 +81,9 @@ fn commit_meddled<R: Wait + Abort>(
     if !may_commit(&first, &log, branches) {
         panic!(rt; "these branches are refused");
     }
-    match commit_all(rt, alloc, &mut first, &mut log, branches, &mut idle) {
-        Ok(done) => done,
-        Err(_) => panic!(rt; "memory"),
+    match commit(rt, alloc, &mut first, &mut log, branches, None, &mut idle) {
+        Ok(CommitOutcome::Decided(done)) => done,
+        _ => panic!(rt; "memory"),
     }
 }
 

@@ -15,12 +15,12 @@ use super::Opened;
 use std::alloc::Global;
 use std::process::Abort;
 use std::sync::Wait;
+use test_support::{one, two};
 use xa_crew::Turns;
 use xa_desk::{Desk, EndedDesk};
 use xa_scan::Scan;
 use xa_switch::laws::{opened_pieces_come_from_their_opening, settled_openings_are_of_their_setup};
 use xa_switch::{Again, Plan, Settled, settle};
-use test_support::{one, two};
 use xa_worker::DoneWorker;
 
 // Opens a switch of two threads, the second of which has sent nothing.

@@ -11,7 +11,7 @@ use std::sync::Wait;
 use xa_calls::RmOp;
 use xa_crew::Turns;
 use xa_desk::{Desk, EndedDesk, Idle};
-use xa_driver::{Branch, Done, commit_all, may_commit};
+use xa_driver::{Branch, CommitOutcome, Done, commit, may_commit};
 use xa_log::MemoryLog;
 use xa_worker::DoneWorker;
 
@@ -35,7 +35,7 @@ pub(super) struct Made {
     pub(super) done: Done,
 }
 
-pub(super) fn commit<R: Wait + Abort, I: Idle>(
+pub(super) fn make<R: Wait + Abort, I: Idle>(
     rt: &R,
     alloc: Global,
     desk: &mut Desk,
@@ -56,7 +56,7 @@ pub(super) fn commit<R: Wait + Abort, I: Idle>(
     }
     let _managers = desk.managers();
     let (before, log_before) = (Snapshot::of(desk), Snapshot::of(log));
-    let Ok(done) = commit_all(rt, alloc, desk, log, branches, idle) else {
+    let Ok(CommitOutcome::Decided(done)) = commit(rt, alloc, desk, log, branches, None, idle) else {
         panic!(rt; "memory");
     };
     Made {

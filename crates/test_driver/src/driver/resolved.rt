@@ -22,24 +22,24 @@ ghost use Rattle.xa_switch.specs.Belonging.{seat_of_worker, seat_of_done};
 ghost use Rattle.xa_switch.specs.Settled.{IsSettled};
 ghost use Rattle.laws_commit.specs.Outcomes.{AreLeftOrDecided};
 ghost use Rattle.xa_driver.specs.Deaths.{sent_so_far};
-ghost use Rattle.laws_commit.specs.Resolution.{CommitCall, ResolveCall, Opening, Use, commit_call, resolve_call};
-ghost use Rattle.laws_commit.specs.Resolution.{commits, resolves, with_use, Continues, IsAllOrNone, IsResolved};
-ghost use Rattle.laws_commit.specs.Resolution.{OnlyResolves};
+ghost use Rattle.laws_commit.specs.Calls.{CommitCall, ResolveCall, commit_call, resolve_call};
+ghost use Rattle.laws_commit.specs.Resolution.{Continues, IsAllOrNone, IsResolved, OnlyResolves, Opening, Use};
+ghost use Rattle.laws_commit.specs.Resolution.{commits, resolves, with_use};
 ghost use Rattle.xa_driver.specs.Resolving.{IsTraceOfResolve};
 ghost use Rattle.xa_driver.specs.Trace.{IsCommit};
 ghost use Rattle.laws_commit.specs.Worth.{CountsOver, CountsAllOrNone};
 
 use super::openings::{Reopened, again, open, open_again, settle_all};
-use super::pieces::{Made, commit, end, run_all, work};
+use super::pieces::{Made, end, make, run_all, work};
 use super::{Opened, branch, key, plan_of};
+use laws_commit::{
+    finished_commits_are_cut_after_all, next_openings_resolve,
+    resolved_transactions_count_where_committed, resolved_transactions_have_one_outcome,
+};
 use std::alloc::Global;
 use std::process::Abort;
 use std::snapshot::Snapshot;
 use std::sync::Wait;
-use laws_commit::{
-    next_openings_resolve, resolved_transactions_count_where_committed,
-    resolved_transactions_have_one_outcome,
-};
 use xa_crew::Turns;
 use xa_desk::{Desk, Idle};
 use xa_driver::{Branch, Ending, Outcome, Resolved, may_resolve, resolve};
@@ -141,7 +141,7 @@ pub(super) fn commit_and_crash<R: Wait + Abort>(
         workers,
         idled: false,
     };
-    let made = commit(rt, alloc, &mut first, log, branches, &mut idle);
+    let made = make(rt, alloc, &mut first, log, branches, &mut idle);
     let Crash {
         second,
         mut workers,
@@ -292,15 +292,16 @@ fn commit_and_resolve<R: Wait + Abort>(
     requires fresh { (m : ℕ) → (ledger opened.second.ledgers m).sent ≡ [] }
     ensures { let c : CommitCall = commit_call result.thread branches.now result.made.before.value
         result.made.after.value.ledgers result.made.log_before.value.state result.made.log_after.value.state
-        result.made.done in
+        result.made.done.endings.items in
         let q : ResolveCall = resolve_call result.last.thread result.last.ended.scan.value
         result.last.ended.before.value.ledgers result.last.ended.after.value.ledgers
         result.last.ended.told.outcomes.items result.log.value.state.records in
         let o : Opening = with_use result.first.value (commits c) in
         let last : Opening = with_use result.last.settled (resolves q) in
-        IsResolved o [] last c q × IsAllOrNone c o (last ∷ []) × CountsOver c o (last ∷ [])
-        × CountsAllOrNone c o (last ∷ []) }
+        IsResolved o [] last c q × IsAllOrNone c result.made.done o (last ∷ [])
+        × CountsOver c result.made.done o (last ∷ []) × CountsAllOrNone c result.made.done o (last ∷ []) }
 {
+    finished_commits_are_cut_after_all();
     next_openings_resolve();
     resolved_transactions_have_one_outcome();
     resolved_transactions_count_where_committed();
@@ -370,16 +371,18 @@ fn commit_and_resolve_later<R: Wait + Abort>(
     requires fresh { (m : ℕ) → (ledger opened.second.ledgers m).sent ≡ [] }
     ensures { let c : CommitCall = commit_call result.thread branches.now result.made.before.value
         result.made.after.value.ledgers result.made.log_before.value.state result.made.log_after.value.state
-        result.made.done in
+        result.made.done.endings.items in
         let q : ResolveCall = resolve_call result.last.thread result.last.ended.scan.value
         result.last.ended.before.value.ledgers result.last.ended.after.value.ledgers
         result.last.ended.told.outcomes.items result.log.value.state.records in
         let o : Opening = with_use result.first.value (commits c) in
         let between : Opening = record { settled = result.between.value; uses = [] } in
         let last : Opening = with_use result.last.settled (resolves q) in
-        IsResolved o (between ∷ []) last c q × IsAllOrNone c o (between ∷ last ∷ [])
-        × CountsOver c o (between ∷ last ∷ []) × CountsAllOrNone c o (between ∷ last ∷ []) }
+        IsResolved o (between ∷ []) last c q × IsAllOrNone c result.made.done o (between ∷ last ∷ [])
+        × CountsOver c result.made.done o (between ∷ last ∷ [])
+        × CountsAllOrNone c result.made.done o (between ∷ last ∷ []) }
 {
+    finished_commits_are_cut_after_all();
     resolved_transactions_have_one_outcome();
     resolved_transactions_count_where_committed();
     let mut log = MemoryLog::new(alloc);

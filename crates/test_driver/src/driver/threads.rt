@@ -5,13 +5,13 @@ use std::process::Abort;
 use std::sync::Wait;
 use std::sync::atomic::{AtomicBool, Ordering};
 use std::thread::{Threads, join};
+use test_support::{comes, end, one, two};
 use xa_calls::RmOp;
 use xa_desk::{Desk, EndedDesk, Spin};
-use xa_driver::{Branch, Done, Ending, commit_all, may_commit};
+use xa_driver::{Branch, CommitOutcome, Done, Ending, commit, may_commit};
 use xa_log::{DecisionLog, MemoryLog};
 use xa_store::NoStore;
 use xa_switch::{Plan, open_switch};
-use test_support::{comes, end, one, two};
 use xa_words::{Op, Request};
 use xa_worker::{DoneWorker, Pace, Worker};
 
@@ -55,9 +55,9 @@ fn commit_worked<R: Wait + Abort, L: DecisionLog>(
     if !may_commit(desk, log, branches) {
         panic!(rt; "these branches are refused");
     }
-    match commit_all(rt, alloc, desk, log, branches, &mut Spin::new()) {
-        Ok(done) => done,
-        Err(_) => panic!(rt; "memory"),
+    match commit(rt, alloc, desk, log, branches, None, &mut Spin::new()) {
+        Ok(CommitOutcome::Decided(done)) => done,
+        _ => panic!(rt; "memory"),
     }
 }
 

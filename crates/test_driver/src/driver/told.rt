@@ -9,13 +9,14 @@ ghost use Rattle.xa_driver.specs.Trace.{IsCommit};
 ghost use Rattle.laws_commit.specs.Outcomes.{AreLeftOrDecided, KeepsTheVotes, TellsTheFates};
 ghost use Rattle.xa_driver.specs.Deaths.{sent_so_far};
 
-use super::pieces::{Made, commit, end, run_all, work};
+use super::pieces::{Made, end, make, run_all, work};
 use super::{branch, key, plan_of};
+use laws_commit::commit_in_a_settled_opening;
 use std::alloc::Global;
 use std::process::Abort;
 use std::snapshot::Snapshot;
 use std::sync::Wait;
-use laws_commit::commit_in_a_settled_opening;
+use test_support::one;
 use xa_calls::xa_call;
 use xa_crew::Turns;
 use xa_desk::laws::{desks_go_on, growth_goes_on};
@@ -24,7 +25,6 @@ use xa_driver::{Branch, Ending};
 use xa_log::MemoryLog;
 use xa_switch::laws::opened_pieces_come_from_their_opening;
 use xa_switch::{Plan, Settled, settle};
-use test_support::one;
 use xa_words::{Call, TMNOFLAGS};
 use xa_worker::DoneWorker;
 
@@ -111,7 +111,7 @@ fn commit_and_settle<R: Wait + Abort>(
     let mut log = MemoryLog::new(alloc);
     work(rt, &mut desk, &branches[0], &mut workers);
     work(rt, &mut desk, &branches[1], &mut workers);
-    let made = commit(rt, alloc, &mut desk, &mut log, branches, &mut workers);
+    let made = make(rt, alloc, &mut desk, &mut log, branches, &mut workers);
     close(rt, &mut desk, &mut workers);
     let ended = end(rt, desk, &mut workers);
     let Ok(desks) = Vec::from_array(alloc, [ended]) else {

@@ -13,17 +13,17 @@ use std::process::Abort;
 use std::sync::Wait;
 use xa_crew::Turns;
 use xa_desk::Desk;
-use xa_driver::{Branch, CommitFault, Resolved, commit_all, may_commit};
-use xa_log::{LosingLog, MemoryLog};
+use xa_driver::{Branch, CommitOutcome, Resolved, commit, may_commit};
+use xa_log::{MemoryLog, ReopenLog, TrialLog};
 use xa_switch::Plan;
 use xa_words::Code;
 
 // A commit that comes to no decision, and the votes of its branches.
-fn commit<R: Wait + Abort>(
+fn lose_record<R: Wait + Abort>(
     rt: &R,
     alloc: Global,
     desk: &mut Desk,
-    log: &mut LosingLog,
+    log: &mut TrialLog<MemoryLog>,
     branches: &[Branch; 2],
     idle: &mut Turns,
 ) -> Vec<Code>
@@ -33,8 +33,8 @@ fn commit<R: Wait + Abort>(
     if !may_commit(desk, log, branches) {
         panic!(rt; "these branches are refused");
     }
-    match commit_all(rt, alloc, desk, log, branches, idle) {
-        Err(CommitFault::Undecided(votes)) => votes,
+    match commit(rt, alloc, desk, log, branches, None, idle) {
+        Ok(CommitOutcome::Undecided(votes)) => votes,
         _ => panic!(rt; "it was decided"),
     }
 }
@@ -53,7 +53,7 @@ fn is_undecided<R: Wait + Abort>(
     rt: &R,
     alloc: Global,
     desk: &mut Desk,
-    log: &mut LosingLog,
+    log: &mut TrialLog<MemoryLog>,
     branches: &[Branch; 2],
     idle: &mut Turns,
 )
@@ -61,7 +61,7 @@ fn is_undecided<R: Wait + Abort>(
     ensures idled { map seat_of_worker idle.new ≡ map seat_of_worker idle.old }
 {
     let room = desk.room(1).checked_sub(1).expect(rt, "room");
-    let votes = commit(rt, alloc, desk, log, branches, idle);
+    let votes = lose_record(rt, alloc, desk, log, branches, idle);
     assert!(rt; votes.as_slice() == [Code::Done; 2].as_slice());
     assert!(rt; (desk.room(1), desk.room(2)) == (room, room));
     assert!(rt; !may_commit(desk, log, &[branch(rt, 1)]));
@@ -83,10 +83,10 @@ fn comes_to<R: Wait + Abort>(rt: &R, alloc: Global, keeps: bool, value: u64) {
     work(rt, &mut first, &branches[0], &mut workers);
     work(rt, &mut first, &branches[1], &mut workers);
     let found = MemoryLog::with_room(alloc, 1).expect(rt, "memory");
-    let mut log = LosingLog::losing_at(found, 1, keeps);
+    let mut log = TrialLog::new(found).losing_at(1, keeps);
     is_undecided(rt, alloc, &mut first, &mut log, &branches, &mut workers);
     let settled = end_both(rt, alloc, first, second, workers);
-    let recovered = recover(rt, alloc, settled, &again(8), &log.reopened());
+    let recovered = recover(rt, alloc, settled, &again(8), &log.reopen());
     are_ended(rt, &recovered.ended.told, keeps);
     assert!(rt; recovered.settled.value(1, &key(rt)) == Some(value));
     assert!(rt; recovered.settled.value(2, &key(rt)) == Some(value));

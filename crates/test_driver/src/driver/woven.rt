@@ -1,22 +1,25 @@
 //! A commit that is held in stages, with the whole of another between its votes and its decision. By what the calls
 //! promise and the laws it is one that was cut short once all its branches were told; and the values have both.
-ghost use Rattle.std.specs.Prelude.{◌≡◌, ◌≢◌, ◌↔◌, IsTrue, ◌∷◌, [], map};
+ghost use Rattle.std.specs.Prelude.{◌≡◌, ◌≢◌, ◌↔◌, IsTrue, ℕ, ◌∷◌, [], map};
 ghost use Rattle.std.specs.List.{All};
 ghost use Rattle.xa_switch.specs.Belonging.{ComeFromOpenings, seat_of_desk, seat_of_worker};
+ghost use Rattle.laws_commit.specs.Calls.{commit_call};
 ghost use Rattle.laws_commit.specs.Cut.{AreOthers, IsCut};
 
 use super::openings::{open, settle_all};
 use super::pieces::{end, run_all};
 use super::{Opened, branch, delta, key, plan_of};
+use laws_commit::{
+    decided_commits_were_made, others_leave_the_branches, stages_are_cuts, stages_follow,
+};
 use std::alloc::Global;
 use std::process::Abort;
 use std::snapshot::Snapshot;
 use std::sync::Wait;
-use laws_commit::{others_leave_the_branches, stages_are_cuts, stages_follow};
 use xa_calls::RmOp;
 use xa_crew::Turns;
 use xa_desk::Desk;
-use xa_driver::{Branch, Done, Ending, commit_all, may_commit, prepare_all};
+use xa_driver::{Branch, CommitOutcome, Done, Ending, commit, may_commit, prepare_all};
 use xa_log::{DecisionRecords, MemoryLog};
 use xa_switch::{Plan, Settled};
 use xa_words::{Key, Xid};
@@ -62,12 +65,13 @@ fn weave<R: Wait + Abort>(
     others: &[Branch],
     idle: &mut Turns,
 ) -> Woven
-    ensures cut { IsCut branches.now result.before.value result.after.value.ledgers result.log_before.value.state
-        result.log_after.value.state result.known.endings.items }
+    ensures cut { (t : ℕ) → IsCut (commit_call t branches.now result.before.value result.after.value.ledgers
+        result.log_before.value.state result.log_after.value.state result.known.endings.items) }
     ensures seat { seat_of_desk desk.new ≡ seat_of_desk desk.old }
     ensures idled { map seat_of_worker idle.new ≡ map seat_of_worker idle.old }
 {
     stages_are_cuts();
+    decided_commits_were_made();
     stages_follow();
     others_leave_the_branches();
     if !are_others(branches, others) {
@@ -77,13 +81,13 @@ fn weave<R: Wait + Abort>(
         panic!(rt; "these branches are refused");
     }
     let before = Snapshot::of(desk);
-    let Ok(prepared) = prepare_all(rt, alloc, desk, log, branches, idle) else {
+    let Ok(prepared) = prepare_all(rt, alloc, desk, branches, idle) else {
         panic!(rt; "memory");
     };
     if !may_commit(desk, log, others) {
         panic!(rt; "the others are refused");
     }
-    let Ok(_) = commit_all(rt, alloc, desk, log, others, idle) else {
+    let Ok(CommitOutcome::Decided(_)) = commit(rt, alloc, desk, log, others, None, idle) else {
         panic!(rt; "memory");
     };
     if log.has(&branches[0].xid.tran()).is_some() {
@@ -154,8 +158,9 @@ fn weave_and_settle<R: Wait + Abort>(
 ) -> Story
     requires { ComeFromOpenings (seat_of_desk opened.first ∷ seat_of_desk opened.second ∷ [])
         (map seat_of_worker opened.workers) }
-    ensures { IsCut branches.now result.woven.before.value result.woven.after.value.ledgers
-        result.woven.log_before.value.state result.woven.log_after.value.state result.woven.known.endings.items }
+    ensures { (t : ℕ) → IsCut (commit_call t branches.now result.woven.before.value
+        result.woven.after.value.ledgers result.woven.log_before.value.state result.woven.log_after.value.state
+        result.woven.known.endings.items) }
 {
     let Opened {
         mut first,

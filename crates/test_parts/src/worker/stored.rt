@@ -11,7 +11,7 @@ use xa_store::Store;
 use xa_store_memory::MemoryStore;
 use xa_tables::Manager;
 use xa_words::{Code, Completion, Delta, EndHow, Key, Op, Request, StartHow, Xid};
-use xa_worker::{Free, Step, Worker};
+use xa_worker::{Free, Worker, WorkerStep};
 
 // The requests that prepare one branch, which adds 1 to the key `a`.
 const REQUESTS: usize = 5;
@@ -70,10 +70,10 @@ fn count<R: Wait>(rt: &R, answers: &mut Receiver<Completion>) -> usize {
 fn answers_wait_for_one_settle(rt: HostRuntime) {
     let (mut worker, mut store, _sender, mut answers) = opened_with_store(&rt, rt.alloc(), 16);
     for _ in 0..REQUESTS {
-        assert!(rt; worker.step(&rt, &mut Free, &mut store) == Step::Did);
+        assert!(rt; worker.step(&rt, &mut Free, &mut store) == WorkerStep::Did);
         assert!(rt; store.owes() && matches!(answers.take(&rt), Taken::Empty));
     }
-    assert!(rt; worker.step(&rt, &mut Free, &mut store) == Step::Empty);
+    assert!(rt; worker.step(&rt, &mut Free, &mut store) == WorkerStep::Empty);
     assert!(rt; !store.owes());
     for number in 0..REQUESTS {
         collect(&rt, &mut answers, number as u32, Code::Done);

@@ -1,8 +1,8 @@
 //! Coordinators that die, and logs one of whose appends has an unknown end.
 use super::has_steps;
 use super::tasks::{commit, commit_until};
-use std::test::Fail;
 use script_grammar::{Reason, ScriptFault, UnknownAppend, read_script};
+use std::test::Fail;
 use xa_words::Death;
 
 #[test]

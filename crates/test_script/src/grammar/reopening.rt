@@ -1,7 +1,7 @@
 //! Lines that reopen, that recover and that resolve, and the faults in them.
 use super::{call, has_steps};
-use std::test::Fail;
 use script_grammar::{Action, ManagerCall, Reason, ScriptFault, Step, Task, read_script};
+use std::test::Fail;
 use xa_words::{Call, TMASYNC, TMENDRSCAN, TMSTARTRSCAN};
 
 #[test]

@@ -1,7 +1,7 @@
 //! Commits of several branches, and logs that fail.
 use super::{OwnStep, call, has_steps};
-use std::test::Fail;
 use script_grammar::{Action, CommitAll, ManagerCall, Step, Task, read_script};
+use std::test::Fail;
 use xa_words::{Call, Death, ManagerSet, TMASYNC, Tran};
 
 pub(super) fn commit(

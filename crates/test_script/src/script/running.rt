@@ -2,8 +2,8 @@
 use std::sync::Wait;
 use std::test::Fail;
 use std::thread::Threads;
-use xa_script::{RunFault, program, read_script, run_turns};
 use test_support::Refusing;
+use xa_script::{RunFault, program, read_script, run_turns};
 
 // Whether the program ends with status 0 on this script, writes this transcript and tells nothing.
 fn shows<R: Threads + Wait + AllocGlobal + Copy + Send + 'static>(

@@ -2,8 +2,8 @@
 use std::io::Read;
 use std::sync::Wait;
 use std::thread::Threads;
-use xa_script::program;
 use test_support::{Failing, Refusing};
+use xa_script::program;
 
 // Whether the program shows nothing on these words and this reader, but ends with this status and
 // tells this of its fault, and whether it ends so too where it can't tell it.

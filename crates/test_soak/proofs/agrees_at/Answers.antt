@@ -17,5 +17,6 @@ returns c = λ shown.
       agrees =
           subst (λ (j : List Entry). Agrees accounts j (sent_by_all s m) values) c.journal.ensures.journal
           (subst (λ (l : List ℕ). Agrees accounts c.journal.result.now l values) c.sent_to-sent.ensures
-          (subst (λ (v : List (List ℕ × Option ℕ)). Agrees accounts c.journal.result.now c.sent_to-sent.result v) c.deref.ensures.value (c.agrees.ensures yes_)));
+          (subst (λ (v : List (List ℕ × Option ℕ)). Agrees accounts c.journal.result.now c.sent_to-sent.result v)
+          c.deref.ensures.value (c.agrees.ensures yes_)));
     }

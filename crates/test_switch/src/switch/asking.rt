@@ -2,9 +2,9 @@
 use super::{one_desk, plan_of};
 use std::process::Abort;
 use std::sync::Wait;
+use test_support::end;
 use xa_calls::xa_call;
 use xa_desk::{Desk, Spin};
-use test_support::end;
 use xa_words::{
     Call, Code, TMASYNC, TMENDRSCAN, TMMULTIPLE, TMNOFLAGS, TMNOWAIT, TMSTARTRSCAN, TMSUCCESS, Xid,
 };

@@ -13,11 +13,11 @@ use super::key;
 use std::alloc::Global;
 use std::process::Abort;
 use std::sync::Wait;
+use test_support::{end, open, run_all};
 use xa_calls::{native, xa_call, xa_complete};
 use xa_desk::{Desk, EndedDesk, Idle, Spin};
 use xa_switch::laws::opened_pieces_come_from_their_opening;
 use xa_switch::{Plan, Settled, Why, settle};
-use test_support::{end, open, run_all};
 use xa_words::{Call, Code, Op, Request, RmOp, TMNOFLAGS, Xid};
 use xa_worker::DoneWorker;
 

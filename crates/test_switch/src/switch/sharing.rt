@@ -4,11 +4,11 @@ use std::process::Abort;
 use std::sync::Wait;
 use std::thread;
 use std::thread::{Threads, join};
+use test_support::{end, one, two};
 use xa_calls::{xa_call, xa_complete};
 use xa_desk::{Desk, EndedDesk, Spin};
 use xa_store::NoStore;
 use xa_switch::Plan;
-use test_support::{end, one, two};
 use xa_words::{Call, Code, Request, TMASYNC, TMMULTIPLE, TMNOWAIT};
 use xa_worker::{DoneWorker, Free, Worker};
 

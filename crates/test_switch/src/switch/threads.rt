@@ -8,10 +8,10 @@ use std::process::Abort;
 use std::sync::Wait;
 use std::sync::atomic::{AtomicBool, Ordering};
 use std::thread::{Threads, join};
+use test_support::{comes, end, one, two};
 use xa_calls::{xa_call, xa_complete};
 use xa_desk::{Desk, EndedDesk, Spin, Ticket};
 use xa_store::NoStore;
-use test_support::{comes, end, one, two};
 use xa_words::{Call, Code, Op, Request, TMASYNC, TMNOFLAGS, TMNOWAIT};
 use xa_worker::{DoneWorker, Free, Pace, Worker};
 

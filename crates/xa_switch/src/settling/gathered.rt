@@ -1,11 +1,11 @@
 //! How desks and workers are taken apart, as their opening is settled.
 ghost use Rattle.std.specs.Prelude.{◌≤◌, length, map, IfOk};
 ghost use Rattle.std.specs.List.{All};
-ghost use Rattle.xa_desk.specs.Ended.{IsEnded};
+ghost use Rattle.xa_desk.specs.Ended.{IsEndedDesk};
 ghost use Rattle.xa_tables.specs.Openings.{IsOpening};
 ghost use Rattle.xa_worker.specs.Done.{IsServed, IsOrdered};
-ghost use Rattle.xa_switch.specs.Closing.{desk_lane, worker_lane, thread_part, ready_part, HasRoomFor, HasRoom};
-ghost use Rattle.xa_switch.specs.Closing.{HasTaken, TakesIn};
+ghost use Rattle.xa_switch.specs.Closing.{desk_lane, worker_lane, thread_part, ready_part, HasRoomForPieces};
+ghost use Rattle.xa_switch.specs.Closing.{HasRoomForPiece, HasTaken, TakesInPiece};
 
 use crate::columns::{deal, reserve_columns};
 use crate::settling::settled::{Carried, EndedThread};
@@ -35,7 +35,7 @@ pub(crate) fn reserve_gathered<E: Drop, R: Drop, P: Drop>(
     alloc: Global,
     pieces: usize,
 ) -> Result<Gathered<E, R, P>, AllocError>
-    ensures { IfOk result (λ r. HasRoomFor pieces r) }
+    ensures { IfOk result (λ r. HasRoomForPieces pieces r) }
 {
     let columns = reserve_columns(alloc, MOST_SENDERS, pieces)?;
     let lanes = Vec::with_capacity(alloc, pieces)?;
@@ -51,8 +51,8 @@ impl<E: Drop, R: Drop, P: Drop> Gathered<E, R, P> {
     // Takes in one piece more: its ends of lanes, its own lane with the lane's place, and its part.
     fn take_in(self, ends: Vec<E>, lane: (usize, R), part: P) -> Gathered<E, R, P>
         requires row { length ends.items ≤ length self.columns.items }
-        requires room { HasRoom self }
-        ensures { TakesIn ends.items lane part self result }
+        requires room { HasRoomForPiece self }
+        ensures { TakesInPiece ends.items lane part self result }
     {
         let Gathered {
             columns,
@@ -71,11 +71,11 @@ impl<E: Drop, R: Drop, P: Drop> Gathered<E, R, P> {
 
 /// Takes the desks apart. It takes no memory.
 pub(crate) fn take_desks(desks: Vec<EndedDesk>, mut room: GatheredDesks) -> GatheredDesks
-    requires room { HasRoomFor (length desks.items) room }
+    requires room { HasRoomForPieces (length desks.items) room }
     requires few { All (λ d. length d.ledgers ≤ MOST_SENDERS) desks.items }
     ensures taken { HasTaken (length desks.items) (map (λ d. d.requests) desks.items) (map desk_lane desks.items)
         (map thread_part desks.items) result }
-    ensures known { All IsEnded desks.items }
+    ensures known { All IsEndedDesk desks.items }
 {
     for desk in desks {
         let number = desk.number();
@@ -92,7 +92,7 @@ pub(crate) fn take_desks(desks: Vec<EndedDesk>, mut room: GatheredDesks) -> Gath
 
 /// Takes the workers apart. It takes no memory.
 pub(crate) fn take_workers(workers: Vec<DoneWorker>, mut room: GatheredWorkers) -> GatheredWorkers
-    requires room { HasRoomFor (length workers.items) room }
+    requires room { HasRoomForPieces (length workers.items) room }
     requires few { All (λ w. w.manager.threads ≤ MOST_SENDERS) workers.items }
     requires numbered { All (λ w. 1 ≤ w.number) workers.items }
     requires opened { All (λ w. IsOpening w.first) workers.items }

@@ -11,5 +11,6 @@ loop-attended-preserved g c =
       counted = search rules;
       ready =
           subst (All P) (sym c.in_ok-push.ensures.items)
-          (All-push P c.loop-attended.logs.items c.in_ok-close_day.field-0 c.loop-attended.invariant.ready c.in_ok-close_day.ensures.ready);
+          (All-push P c.loop-attended.logs.items c.in_ok-close_day.field-0 c.loop-attended.invariant.ready
+          c.in_ok-close_day.ensures.ready);
     }

@@ -7,7 +7,8 @@ use Rattle.demo_bank_days.proofs.day.all_off_work.Given as goal
 abbrev pub invariant-loop-attended : goal.invariant-loop-attended
 invariant-loop-attended g l = record {
   so_far : l.yielded ++ into_iter_items l.attended-iterator ≡ l.fn.clients.items;
-  logs : ForEach (ReadsBack g.L.DecisionLog.state g.L.DecisionRecords.knows g.L.DecisionLog.loses g.L.ReopenLog.reopens) 1 (map (λ a. a.client.client) l.yielded) (map (λ t. t.log) l.evening.tellers.items)
+  logs : ForEach (ReadsBack g.L.DecisionLog.state g.L.DecisionRecords.knows g.L.DecisionLog.loses g.L.ReopenLog.reopens)
+      1 (map (λ a. a.client.client) l.yielded) (map (λ t. t.log) l.evening.tellers.items)
       l.evening.found.items;
   counted : l.thread ≡ length l.yielded;
   all_counted : into_iter_len l.attended-iterator ≡ length (into_iter_items l.attended-iterator);

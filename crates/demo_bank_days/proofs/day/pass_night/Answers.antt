@@ -1,5 +1,7 @@
-use Rattle.xa_base.proofs.{subst, IfOk-weaker, arith, Err, Ok, Result, ◌≡◌, Bool, true, false, if◌then◌else◌, sym, ap, ◌∙◌, All, IfErr}
-use Rattle.demo_bank_days.specs.{IsUntouched, Unresolved, BadNumbers, TellerWantsMemory, next_numbers, Excuses, HasRoomToResolve}
+use Rattle.xa_base.proofs.{subst, IfOk-weaker, arith, Err, Ok, Result, ◌≡◌, Bool, true, false, if◌then◌else◌, sym, ap}
+use Rattle.xa_base.proofs.{◌∙◌, All, IfErr}
+use Rattle.demo_bank_days.specs.{IsUntouched, Unresolved, BadNumbers, TellerWantsMemory, next_numbers, Excuses}
+use Rattle.demo_bank_days.specs.{HasRoomToResolve}
 use Rattle.xa_switch.specs.{Again}
 use Rattle.xa_driver.specs.{Resolved}
 use Rattle.demo_bank_days.proofs.Moved.{same_stores}
@@ -9,13 +11,15 @@ pub returns-then-wanting : goal.returns-then-wanting
 returns-then-wanting g c = search (arith, c.args.day.now)
 
 -- why a night resolved nothing is why nothing was resolved of its day
-day_excuse : {Good : Type 0} (Wants Known Room : Type 0) → Good → (why : Unresolved) → Excuses ⊥ Known Room Good why → Excuses Wants Known Room (Unit {0}) why
+day_excuse : {Good : Type 0} (Wants Known Room : Type 0) → Good → (why : Unresolved) → Excuses ⊥ Known Room Good why
+    → Excuses Wants Known Room (Unit {0}) why
 day_excuse Wants Known Room good TellerWantsMemory e = absurd e
 day_excuse Wants Known Room good BadNumbers e = absurd (e good)
 day_excuse Wants Known Room good why e = e
 
 -- two facts of an error
-err_each : {P Q S : Unresolved → Type 0} (r : Result Resolved Unresolved) → ((e : Unresolved) → P e → Q e → S e) → IfErr r P → IfErr r Q → IfErr r S
+err_each : {P Q S : Unresolved → Type 0} (r : Result Resolved Unresolved) → ((e : Unresolved) → P e → Q e → S e)
+    → IfErr r P → IfErr r Q → IfErr r S
 err_each (Ok z) so p q = tt
 err_each (Err e) so p q = so e p q
 
@@ -36,10 +40,19 @@ returns-clause-passed g c =
             c.if-wanting.false,
             numbers,
             rw numbers at is_night,
-            same_stores c.reopened_openings_go_on_from_what_was_left.ensures s n.settled c.next_numbers-again.result c.settled_openings_are_whole.ensures is_night.resolves.of_setup c.settled_openings_are_whole-2.ensures,
+            same_stores c.reopened_openings_go_on_from_what_was_left.ensures s n.settled c.next_numbers-again.result
+                c.settled_openings_are_whole.ensures is_night.resolves.of_setup c.settled_openings_are_whole-2.ensures,
           )) c.in_ok-night.ensures.night;
       left =
-          subst (λ (q : Again). IfErr n.resolved (λ why. Excuses (c.args.wanting ≡ true) Known (HasRoomToResolve s q) (Unit {0}) why × IsUntouched s q n.settled)) numbers
-          (err_each n.resolved (λ why excuse untouched. (day_excuse (c.args.wanting ≡ true) Known (HasRoomToResolve s c.next_numbers-again.result) (rw numbers c.requires) why excuse, untouched))
+          subst
+          (λ (q : Again). IfErr n.resolved
+          (λ why. Excuses (c.args.wanting ≡ true) Known (HasRoomToResolve s q) (Unit {0}) why × IsUntouched s q
+          n.settled)) numbers
+          (err_each n.resolved
+          (λ why excuse untouched. (
+            day_excuse (c.args.wanting ≡ true) Known (HasRoomToResolve s c.next_numbers-again.result)
+                (rw numbers c.requires) why excuse,
+            untouched,
+          ))
           c.in_ok-night.ensures.unresolved c.in_ok-night.ensures.untouched);
     }

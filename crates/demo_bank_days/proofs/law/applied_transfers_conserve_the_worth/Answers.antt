@@ -3,4 +3,5 @@ use Rattle.demo_bank_days.proofs.law.applied_transfers_conserve_the_worth.Goals 
 
 pub returns : goal.returns
 returns g c p tellers es b b' sound opened moved within =
-    conserved p sound es within b.settled b'.settled opened.tables (λ m k up there. moved.balances m k (rw opened.stores up) there)
+    conserved p sound es within b.settled b'.settled opened.tables
+    (λ m k up there. moved.balances m k (rw opened.stores up) there)

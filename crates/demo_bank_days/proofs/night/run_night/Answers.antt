@@ -12,7 +12,8 @@ returns-in-Some g c =
     let knows = g.L.DecisionRecords.knows in
     let s = c.args.settled in
     let again = c.args.again.now in
-    let r : Resolver g.row.L.Denot = record { alloc = c.args.alloc; tellers = c.args.tellers; resolved = Err NoMemory } in
+    let r : Resolver g.row.L.Denot =
+    record { alloc = c.args.alloc; tellers = c.args.tellers; resolved = Err NoMemory } in
     let run = c.in-Ok-run_clients_again_in_turns.run' in
     let given : c.push_reserved.new.self.items ≡ r ∷ [] = search (arith, rules) in
     let ran =
@@ -21,18 +22,28 @@ returns-in-Some g c =
     let whole = c.settled_openings_are_whole.ensures in
     let goes_on = c.reopened_openings_go_on_from_what_was_left.ensures in
     record {
-      night = night_law state knows s again r run.clients.items run.settled ran c.requires whole goes_on c.in-Some.attended c.pop.new.self.items is;
-      unresolved = left_law state knows s again r run.clients.items run.settled ran c.requires whole goes_on c.in-Some.attended c.pop.new.self.items is;
-      untouched = untouched_law state knows s again r run.clients.items run.settled ran c.requires whole goes_on c.in-Some.attended c.pop.new.self.items is;
-      tellers = tellers_law state knows s again r run.clients.items run.settled ran c.requires whole goes_on c.in-Some.attended c.pop.new.self.items is;
+      night = night_law state knows s again r run.clients.items run.settled ran c.requires whole goes_on
+          c.in-Some.attended c.pop.new.self.items is;
+      unresolved = left_law state knows s again r run.clients.items run.settled ran c.requires whole goes_on
+          c.in-Some.attended c.pop.new.self.items is;
+      untouched = untouched_law state knows s again r run.clients.items run.settled ran c.requires whole goes_on
+          c.in-Some.attended c.pop.new.self.items is;
+      tellers = tellers_law state knows s again r run.clients.items run.settled ran c.requires whole goes_on
+          c.in-Some.attended c.pop.new.self.items is;
       unsettled = tt;
     }
 
 pub returns-in-Err-Unsettled-clause-unsettled : goal.returns-in-Err-Unsettled-clause-unsettled
 returns-in-Err-Unsettled-clause-unsettled g c =
-    let r : Resolver g.row.L.Denot = record { alloc = c.args.alloc; tellers = c.args.tellers; resolved = Err NoMemory } in
+    let r : Resolver g.row.L.Denot =
+    record { alloc = c.args.alloc; tellers = c.args.tellers; resolved = Err NoMemory } in
     let P : List (Resolver g.row.L.Denot) → Ran (WithScan (Resolver g.row.L.Denot)) → Type 0 =
     HasRunAgain (ResolvesBy g.L.DecisionLog.state g.L.DecisionRecords.knows) c.args.settled c.args.again.now in
     let is : c.run_clients_again_in_turns.result ≡ Err (Unsettled c.in-Err-Unsettled.ran) = cc in
-    let given : c.push_reserved.new.self.items ≡ r ∷ [] = search (arith, rules) in
-    (r, refl, rw given at (IfErr-at_err (IfUnsettled (P c.push_reserved.new.self.items)) is c.run_clients_again_in_turns.ensures.unsettled))
+    let given : c.push_reserved.new.self.items ≡ r ∷ [] = search (arith, rules) in (
+      r,
+      refl,
+      rw given at
+          (IfErr-at_err (IfUnsettled (P c.push_reserved.new.self.items)) is
+          c.run_clients_again_in_turns.ensures.unsettled),
+    )

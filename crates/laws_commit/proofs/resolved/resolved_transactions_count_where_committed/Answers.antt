@@ -1,5 +1,5 @@
 use Rattle.xa_base.proofs.{arith}
-use Rattle.laws_commit.proofs.NextOpening.{counted_law, whole_law}
+use Rattle.laws_commit.proofs.Presumed.{counted_law, whole_law}
 use Rattle.laws_commit.proofs.resolved.resolved_transactions_count_where_committed.Goals as goal
 
 pub returns : goal.returns

@@ -9,7 +9,7 @@ returns c = record {
   prepared = prepared_is_cut;
   decided = decided_is_cut;
   undecided = undecided_is_cut;
-  told = λ bs desk mid tell late new log later p d t may first between second third after.
-      forgetting_cut bs desk mid tell log later p d may first between second late new t third after new (map third_ask t.round.asks.items)
-      (same_itself (map third_ask t.round.asks.items)) (none_so_far (map third_ask t.round.asks.items) new);
+  told = λ k mid tell late p d t may first between second third after.
+      forgetting_cut k mid tell p d may first between second late k.new t third after (map third_ask t.round.asks.items)
+      (same_itself (map third_ask t.round.asks.items)) (none_so_far (map third_ask t.round.asks.items) k.new);
 }

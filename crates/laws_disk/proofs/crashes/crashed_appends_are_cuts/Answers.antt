@@ -1,24 +1,17 @@
-use Rattle.xa_base.proofs.{inl, inr, refl}
-use Rattle.xa_log.specs.{with_record}
 use Rattle.xa_driver.specs.{yes_of}
-use Rattle.laws_disk.proofs.Found.{unforgotten}
+use Rattle.xa_driver.specs.declared.done.CommitOutcome.TheVariants.{Undecided}
+use Rattle.laws_commit.specs.{IsCut, turned_out}
+use Rattle.laws_disk.proofs.Found.{found_either}
 use Rattle.laws_disk.proofs.crashes.crashed_appends_are_cuts.Goals as goal
 
 pub returns : goal.returns
-returns c bs desk mid new log votes tran forgotten file may voted between of_tran wanted none either =
-    elim either [
-      | inl before ↦ (
-        log,
-        before.found,
-        c.stages_are_cuts.ensures.undecided bs desk mid new log log votes tran may voted between of_tran wanted (inl refl),
-        before.has,
-        unforgotten log.records forgotten file tran before none,
-      )
-      | inr after ↦ (
-        with_record log tran (yes_of bs votes),
-        after.found,
-        c.stages_are_cuts.ensures.undecided bs desk mid new log (with_record log tran (yes_of bs votes)) votes tran may voted between of_tran wanted (inr refl),
-        after.has,
-        unforgotten (with_record log tran (yes_of bs votes)).records forgotten file tran after none,
-      )
-    ]
+returns c = record {
+  called = λ k death votes tran forgotten file may of_tran managers comes unknown none either.
+      found_either k.log tran (yes_of k.branches votes.items) forgotten file (λ turned. IsCut (turned_out k turned))
+      (λ turned is. c.commits_are_cuts.ensures (turned_out k turned) tran k.later death (Undecided votes) may of_tran
+      managers comes is unknown) none either;
+  staged = λ k mid votes tran forgotten file may voted between of_tran wanted unknown none either.
+      found_either k.log tran (yes_of k.branches votes) forgotten file (λ turned. IsCut (turned_out k turned))
+      (λ turned is. c.stages_are_cuts.ensures.undecided (turned_out k turned) mid votes tran may voted between of_tran
+      wanted is unknown) none either;
+}

@@ -9,7 +9,10 @@ returns-then-not-are_script_bytes c = search (arith, list_all, block_bad, c.loop
 pub loop-start-preserved : goal.loop-start-preserved
 loop-start-preserved c =
     let good : list_all is_script_byte (take 8 (drop c.loop-start.start c.args.line.now)) ≡ true = search rules in
-    record { judged = block_more is_script_byte c.args.line.now c.loop-start.start 8 c.loop-start.invariant.judged good; in_range = omega arith }
+    record {
+      judged = block_more is_script_byte c.args.line.now c.loop-start.start 8 c.loop-start.invariant.judged good;
+      in_range = omega arith;
+    }
 
 pub returns : goal.returns
 returns c = search (arith, list_all, take_rest, block_last, c.args.line.now, c.loop-start.start)

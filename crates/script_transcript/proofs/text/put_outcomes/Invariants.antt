@@ -4,4 +4,8 @@ use Rattle.script_transcript.proofs.text.put_outcomes.Given as goal
 
 -- the first outcomes are told
 abbrev pub invariant-loop-outcome : goal.invariant-loop-outcome
-invariant-loop-outcome l = record { line : l.out.line ≡ l.fn.out.line ++ outcomes_text (take l.outcome-index l.outcomes); whole : l.out.whole ≡ l.fn.out.whole }
+invariant-loop-outcome l =
+    record {
+      line : l.out.line ≡ l.fn.out.line ++ outcomes_text (take l.outcome-index l.outcomes);
+      whole : l.out.whole ≡ l.fn.out.whole;
+    }

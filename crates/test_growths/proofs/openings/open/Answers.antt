@@ -9,13 +9,16 @@ pub returns-clause-come : goal.returns-clause-come
 returns-clause-come g c =
     let desks = c.in_ok-desks.desks.items in
     let workers = c.in_ok-desks.workers in
-    subst (λ (ds : List DeskView). ComeFromOpenings (map seat_of_desk ds) (map seat_of_worker workers)) (sym c.in_ok-desk.ensures)
+    subst (λ (ds : List DeskView). ComeFromOpenings (map seat_of_desk ds) (map seat_of_worker workers))
+    (sym c.in_ok-desk.ensures)
     (c.opened_pieces_come_from_their_opening.ensures (planned c.args.plan.now) desks workers c.in_ok-desks.ensures)
 
 pub returns-clause-number : goal.returns-clause-number
 returns-clause-number g c =
     let desks = c.in_ok-desks.desks.items in
     let workers = c.in_ok-desks.workers in
-    subst (λ (ds : List DeskView). All (λ n. n ≡ c.args.plan.now.opening) (openings_of (map seat_of_desk ds) (map seat_of_worker workers)))
+    subst
+    (λ (ds : List DeskView). All (λ n. n ≡ c.args.plan.now.opening)
+    (openings_of (map seat_of_desk ds) (map seat_of_worker workers)))
     (sym c.in_ok-desk.ensures)
     (c.opened_pieces_have_their_number.ensures (planned c.args.plan.now) desks workers c.in_ok-desks.ensures)

@@ -6,7 +6,8 @@ use Rattle.test_growths.proofs.settling.call_all.Goals as goal
 
 -- as many workers as seats
 as_many : (old new : List WorkerView) → map seat_of_worker new ≡ map seat_of_worker old → length new ≡ length old
-as_many old new e = sym (length-map new seat_of_worker) ∙ ap (λ (l : List WorkerSeat). length l) e ∙ length-map old seat_of_worker
+as_many old new e =
+    sym (length-map new seat_of_worker) ∙ ap (λ (l : List WorkerSeat). length l) e ∙ length-map old seat_of_worker
 
 pub run-requires-clause-room : goal.run-requires-clause-room
 run-requires-clause-room g c =

@@ -13,4 +13,5 @@ settle_pieces-requires g c =
     let A = desk_seats c.in_ok-whole.whole.desks.items in
     let V = worker_seats c.in_ok-whole.whole.workers.items in
     subst (λ (l : List Served). ComeFromOpenings A (worker_seats l)) (sym c.new.ensures.items)
-    (some_come A A V [] ([], subst (IsPermutation A) (sym (append-nil A)) (IsPermutation-refl A)) (V, IsPermutation-refl V) c.in_ok-whole.ensures.come)
+    (some_come A A V [] ([], subst (IsPermutation A) (sym (append-nil A)) (IsPermutation-refl A))
+    (V, IsPermutation-refl V) c.in_ok-whole.ensures.come)

@@ -5,10 +5,10 @@ ghost use Rattle.xa_switch.specs.Belonging.{ComeFromOpenings, seat_of_desk, seat
 
 use super::turns::Opened;
 use super::*;
+use test_support::{open_again, two};
 use xa_calls::xa_recover;
 use xa_scan::Scan;
 use xa_switch::{Again, OpenFault, reopen};
-use test_support::{open_again, two};
 use xa_words::{Delta, TMASYNC, TMENDRSCAN, TMSTARTRSCAN, TMSUCCESS};
 
 // The plan of two threads and two managers, with room for more requests.

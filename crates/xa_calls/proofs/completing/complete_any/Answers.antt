@@ -9,7 +9,8 @@ pub returns-in-Err-Retry-clause-completes : goal.returns-in-Err-Retry-clause-com
 returns-in-Err-Retry-clause-completes g c =
     let is = c.in-Err-Retry.is ∙ ap (λ why. Err why) c.in-Err-Retry.field-0-is in
     let some = c.try_complete_any.ensures.retry_some is in
-    retry some.0 some.1 c.if-nowait.true refl (c.try_complete_any.ensures.retry_quiet is) (c.try_complete_any.ensures.retry_none is)
+    retry some.0 some.1 c.if-nowait.true refl (c.try_complete_any.ensures.retry_quiet is)
+    (c.try_complete_any.ensures.retry_none is)
 
 pub returns-in-Ok-complete_any-clause-completes : goal.returns-in-Ok-complete_any-clause-completes
 returns-in-Ok-complete_any-clause-completes g c =

@@ -12,16 +12,23 @@ returns-then-not-keeps-clause-leaves g c = leaves_all c.desks_go_on.ensures.same
 
 pub returns-in-Some-try_kept-clause-completes : goal.returns-in-Some-try_kept-clause-completes
 returns-in-Some-try_kept-clause-completes g c =
-    ready c.in-Some.number c.in-Some-try_kept.code c.in-Some.is (sym c.if-not-keeps.ensures.keeps) c.if-nowait.true refl c.in-Some-try_kept.ensures.collected
+    ready c.in-Some.number c.in-Some-try_kept.code c.in-Some.is (sym c.if-not-keeps.ensures.keeps) c.if-nowait.true refl
+    c.in-Some-try_kept.ensures.collected
 
 pub returns-in-Some-try_kept-clause-leaves : goal.returns-in-Some-try_kept-clause-leaves
 returns-in-Some-try_kept-clause-leaves g c = search (arith, g.met.I.Idle.leads_start)
 
 pub returns-in-None : goal.returns-in-None
 returns-in-None g c = record {
-  completes = retry c.in-Some.number c.in-Some.is (sym c.if-not-keeps.ensures.keeps) c.if-nowait.true refl (c.in-None.ensures.quiet refl)
+  completes =
+      retry c.in-Some.number c.in-Some.is (sym c.if-not-keeps.ensures.keeps) c.if-nowait.true refl
+      (c.in-None.ensures.quiet refl)
       (c.in-None.ensures.nothing refl);
-  leaves = record { goes_on = c.try_kept.ensures.goes_on; tickets = c.try_kept.ensures.tickets; idled = g.met.I.Idle.leads_start _ };
+  leaves = record {
+    goes_on = c.try_kept.ensures.goes_on;
+    tickets = c.try_kept.ensures.tickets;
+    idled = g.met.I.Idle.leads_start _;
+  };
   handle = tt;
   refused = λ _. refl;
   prompt = λ _. refl;
@@ -39,7 +46,14 @@ returns-clause-completes g c =
 
 pub returns-clause-leaves : goal.returns-clause-leaves
 returns-clause-leaves g c =
-    search (arith, c.desks_go_on.ensures.further, c.redeem.ensures.goes_on, c.complete.ensures.others, c.redeem.ensures.tickets, c.in-Some-redeem.ensures.fresh)
+    search (
+      arith,
+      c.desks_go_on.ensures.further,
+      c.redeem.ensures.goes_on,
+      c.complete.ensures.others,
+      c.redeem.ensures.tickets,
+      c.in-Some-redeem.ensures.fresh,
+    )
 
 pub returns-in_default-clause-completes : goal.returns-in_default-clause-completes
 returns-in_default-clause-completes g c = unknown (rw c.in_default.is refl) refl refl

@@ -17,12 +17,14 @@ returns-in-Ok-clause-asks g c =
     }
 
 pub returns-in-Ok-clause-kept : goal.returns-in-Ok-clause-kept
-returns-in-Ok-clause-kept g c = asked_keep _ _ c.args.manager (Listed c.args.xid) c.in-Ok.code (returns-in-Ok-clause-asks g c).answers
+returns-in-Ok-clause-kept g c =
+    asked_keep _ _ c.args.manager (Listed c.args.xid) c.in-Ok.code (returns-in-Ok-clause-asks g c).answers
 
 pub returns-in-Err-clause-asks : goal.returns-in-Err-clause-asks
 returns-in-Err-clause-asks g c =
     let some : put_refusal c.args.desk.now c.args.manager false ≡ Some c.code_of.result =
-    ap (option_map code_of) (its_refusal (Err c.in-Err.why) c.in-Err.why _ refl c.in-Err.ensures.refused c.in-Err.ensures.answered)
+    ap (option_map code_of)
+    (its_refusal (Err c.in-Err.why) c.in-Err.why _ refl c.in-Err.ensures.refused c.in-Err.ensures.answered)
     ∙ ap Some (sym c.code_of.ensures) in
     record {
       answers = refused some c.in-Err.ensures.unchanged;
@@ -37,10 +39,12 @@ pub returns-in-Err-clause-prompt : goal.returns-in-Err-clause-prompt
 returns-in-Err-clause-prompt g c = λ _. c.in-Err.ensures.idle_stays
 
 pub returns-in-Ok-clause-leaves : goal.returns-in-Ok-clause-leaves
-returns-in-Ok-clause-leaves g c = record { goes_on = c.call.ensures.goes_on; tickets = c.call.ensures.tickets; idled = c.call.ensures.idled }
+returns-in-Ok-clause-leaves g c =
+    record { goes_on = c.call.ensures.goes_on; tickets = c.call.ensures.tickets; idled = c.call.ensures.idled }
 
 pub returns-in-Err-clause-leaves : goal.returns-in-Err-clause-leaves
-returns-in-Err-clause-leaves g c = record { goes_on = c.call.ensures.goes_on; tickets = c.call.ensures.tickets; idled = c.call.ensures.idled }
+returns-in-Err-clause-leaves g c =
+    record { goes_on = c.call.ensures.goes_on; tickets = c.call.ensures.tickets; idled = c.call.ensures.idled }
 
 pub returns-in-Ok-clause-prompt : goal.returns-in-Ok-clause-prompt
 returns-in-Ok-clause-prompt g c = λ some.

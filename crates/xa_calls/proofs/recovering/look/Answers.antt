@@ -1,5 +1,5 @@
-use Rattle.xa_base.proofs.{◌≡◌, ◌<◌, Some, List, [], ◌∷◌, ◌++◌, length, length-append, set, refl, sym, ap, ◌∙◌, arith, slice_get, length-set, slice_get-get_or}
-use Rattle.xa_base.proofs.{get_or_default}
+use Rattle.xa_base.proofs.{◌≡◌, ◌<◌, Some, List, [], ◌∷◌, ◌++◌, length, length-append, set, refl, sym, ap, ◌∙◌, arith}
+use Rattle.xa_base.proofs.{slice_get, length-set, slice_get-get_or, get_or_default}
 use Rattle.xa_words.specs.{XidName}
 use Rattle.xa_calls.specs.{AsksAndWaits, begun, filled, ended, stopped}
 use Rattle.xa_calls.proofs.Recovered.{finds_more, passes_more, written_more}
@@ -26,12 +26,14 @@ returns-in_default g c =
     let i = c.loop-looked.invariant in
     let (found, looks, xids, many) = i.looks in
     let x : XidName = c.index-left-looked.result in
-    let there : slice_get c.args.left.now c.loop-looked.looked ≡ Some x = search (arith, slice_get-get_or, c.args.left.now, c.loop-looked.looked) in
+    let there : slice_get c.args.left.now c.loop-looked.looked ≡ Some x =
+    search (arith, slice_get-get_or, c.args.left.now, c.loop-looked.looked) in
     let short : length found < c.args.room = omega (arith, many, i.within) in
     record {
       scanned = (
         found,
-        stopped c.loop-looked.looked (c.loop-looked.desk, c.loop-looked.idle) x c.ask.result looks short there c.ask.ensures.asks
+        stopped c.loop-looked.looked (c.loop-looked.desk, c.loop-looked.idle) x c.ask.result looks short there
+            c.ask.ensures.asks
             c.in_default.not-Done c.in_default.not-Nota,
         xids,
         tt,
@@ -49,7 +51,8 @@ loop-looked-preserved g c =
     let left : List XidName = c.args.left.now in
     let k = c.loop-looked.looked in
     let x : XidName = c.index-left-looked.result in
-    let there : slice_get left k ≡ Some x = slice_get-get_or left k x (omega arith) ∙ ap (λ y. Some y) (sym c.index-left-looked.is) in
+    let there : slice_get left k ≡ Some x =
+    slice_get-get_or left k x (omega arith) ∙ ap (λ y. Some y) (sym c.index-left-looked.is) in
     let less : length found < c.args.room = omega (arith, many, i.within) in
     let short : length found < length c.args.xids.now = omega (arith, less, c.requires) in
     let asking = AsksAndWaits g.I.Idle.leads_by c.args.manager in
@@ -57,11 +60,13 @@ loop-looked-preserved g c =
     elim c.match-ask.branch [
       | in-Done w ↦
           let y : XidName = w.index-left-looked-in-Done.result in
-          let same : y ≡ x = w.index-left-looked-in-Done.is ∙ get_or_default left k y x (omega arith) ∙ sym c.index-left-looked.is in
+          let same : y ≡ x =
+          w.index-left-looked-in-Done.is ∙ get_or_default left k y x (omega arith) ∙ sym c.index-left-looked.is in
           record {
             looks = (
               found ++ x ∷ [],
-              finds_more asking c.args.room left _ (c.loop-looked.desk, c.loop-looked.idle) _ k found x _ looks less there c.ask.ensures.asks w.in-Done.is,
+              finds_more asking c.args.room left _ (c.loop-looked.desk, c.loop-looked.idle) _ k found x _ looks less
+                  there c.ask.ensures.asks w.in-Done.is,
               w.xids-is ∙ (λ j. set (xids j) (many j) (same j)) ∙ written_more found c.args.xids.now x short,
               omega (arith, w.found-is, many, length-append found (x ∷ [])),
             );
@@ -73,7 +78,8 @@ loop-looked-preserved g c =
       | in-Nota w ↦ record {
         looks = (
           found,
-          passes_more asking c.args.room left _ (c.loop-looked.desk, c.loop-looked.idle) _ k found x _ looks less there c.ask.ensures.asks w.in-Nota.is,
+          passes_more asking c.args.room left _ (c.loop-looked.desk, c.loop-looked.idle) _ k found x _ looks less there
+              c.ask.ensures.asks w.in-Nota.is,
           w.xids-is ∙ xids,
           w.found-is ∙ many,
         );

@@ -16,7 +16,8 @@ loop-job-init g c = record {
 pub loop-job-preserved : goal.loop-job-preserved
 loop-job-preserved g c = record {
   worked =
-      next_handled c.loop-job.invariant.worked c.in-Some.job c.attend.result c.next.new.self c.push_reserved.new.self c.in-Some.ensures.steps
+      next_handled c.loop-job.invariant.worked c.in-Some.job c.attend.result c.next.new.self c.push_reserved.new.self
+      c.in-Some.ensures.steps
       c.push_reserved.ensures.items c.push_reserved.ensures.capacity c.attend.ensures.worked;
   idled = g.met.I.Idle.leads_chain _ _ _ c.loop-job.invariant.idled c.attend.ensures.idled;
 }
@@ -27,7 +28,12 @@ attend-requires g c =
     (handled_at c.loop-job.invariant.worked c.in-Some.job c.next.new.self c.in-Some.ensures.steps.0)
 
 pub push_reserved-requires : goal.push_reserved-requires
-push_reserved-requires g c = omega (arith, fits_next c.loop-job.invariant.worked c.in-Some.job c.next.new.self c.in-Some.ensures.steps.0 c.requires.room)
+push_reserved-requires g c =
+    omega (
+      arith,
+      fits_next c.loop-job.invariant.worked c.in-Some.job c.next.new.self c.in-Some.ensures.steps.0
+          c.requires.room,
+    )
 
 pub returns-clause-worked : goal.returns-clause-worked
 returns-clause-worked g c = all_handled c.loop-job.invariant.worked c.in-None.ensures.steps.0

@@ -4,7 +4,9 @@ use Rattle.xa_crew.proofs.ending.end_desk.Goals as goal
 
 pub finish-requires-clause-kept : goal.finish-requires-clause-kept
 finish-requires-clause-kept g c =
-    numbers_keep c.outstanding_operations_stay_kept.ensures.collected (c.args.desk, c.args.told.now.items) (range_with_len 1 c.args.desk.handles) (c.end_numbers.new.desk, c.end_numbers.new.told.items) c.end_numbers.ensures.ends c.requires.kept
+    numbers_keep c.outstanding_operations_stay_kept.ensures.collected (c.args.desk, c.args.told.now.items)
+    (range_with_len 1 c.args.desk.handles) (c.end_numbers.new.desk, c.end_numbers.new.told.items)
+    c.end_numbers.ensures.ends c.requires.kept
 
 pub returns-clause-ends : goal.returns-clause-ends
 returns-clause-ends g c = record {

@@ -1,6 +1,6 @@
 use Rattle.xa_base.proofs.{◌+◌, refl, arith, inl, inr, ◌∙◌, range_with_len, cases_eq, range_more}
 use Rattle.xa_base.specs.Lists.Chain.{none, more}
-use Rattle.xa_crew.specs.{Telling}
+use Rattle.xa_crew.specs.{DeskWithCodes}
 use Rattle.xa_crew.proofs.Pieces.{number_freed, number_leaves}
 use Rattle.xa_crew.proofs.ending.end_numbers.Goals as goal
 
@@ -18,8 +18,8 @@ pub loop-before-preserved : goal.loop-before-preserved
 loop-before-preserved g c =
     let i = c.loop-before.invariant in
     let n = c.loop-before.before in
-    let old : Telling = (c.loop-before.desk, c.loop-before.told.items) in
-    let new : Telling = (c.end_number.new.desk, c.end_number.new.told.items) in
+    let old : DeskWithCodes = (c.loop-before.desk, c.loop-before.told.items) in
+    let new : DeskWithCodes = (c.end_number.new.desk, c.end_number.new.told.items) in
     let one = c.end_number.ensures in
     record {
       ends = rw (range_more n) (more (range_with_len 1 n) (n + 1) old new i.ends one.ends);

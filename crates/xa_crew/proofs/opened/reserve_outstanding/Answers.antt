@@ -9,6 +9,9 @@ loop-preserved c =
     let one = c.in_ok-with_capacity.field-0 in
     let pushed = c.in_ok-push.ensures.items in
     record {
-      many = (let many = i.many in let longer = ap length pushed in omega (arith, many, longer, length-append before (one ∷ [])));
-      tell = rw pushed (All-push CanTell before one i.tell (record { none = c.in_ok-with_capacity.ensures.items; room = c.in_ok-with_capacity.ensures.capacity }));
+      many = (let many = i.many in let longer = ap length pushed in omega
+          (arith, many, longer, length-append before (one ∷ [])));
+      tell = rw pushed
+          (All-push CanTell before one i.tell
+          (record { none = c.in_ok-with_capacity.ensures.items; room = c.in_ok-with_capacity.ensures.capacity }));
     }

@@ -2,7 +2,12 @@ use Rattle.xa_base.proofs.{arith, all_handled, fits_next, next_handled}
 use Rattle.xa_crew_again.proofs.stored.reopen_each.Goals as goal
 
 pub push_reserved-requires : goal.push_reserved-requires
-push_reserved-requires g c = omega (arith, fits_next c.loop-store.invariant.stays c.in-Some.store c.next.new.self c.in-Some.ensures.steps.0 c.requires.space)
+push_reserved-requires g c =
+    omega (
+      arith,
+      fits_next c.loop-store.invariant.stays c.in-Some.store c.next.new.self c.in-Some.ensures.steps.0
+          c.requires.space,
+    )
 
 pub loop-store-preserved : goal.loop-store-preserved
 loop-store-preserved g c =
@@ -11,9 +16,11 @@ loop-store-preserved g c =
     let next = c.reopen_one.result in
     let pushed = c.push_reserved.ensures.items in
     record {
-      stays = next_handled i.stays one next c.next.new.self c.push_reserved.new.self c.in-Some.ensures.steps pushed c.push_reserved.ensures.capacity c.reopen_one.ensures.stays;
+      stays = next_handled i.stays one next c.next.new.self c.push_reserved.new.self c.in-Some.ensures.steps pushed
+          c.push_reserved.ensures.capacity c.reopen_one.ensures.stays;
       reopens = λ all.
-          next_handled (i.reopens (c.reopen_one.ensures.before all)) one next c.next.new.self c.push_reserved.new.self c.in-Some.ensures.steps pushed
+          next_handled (i.reopens (c.reopen_one.ensures.before all)) one next c.next.new.self c.push_reserved.new.self
+          c.in-Some.ensures.steps pushed
           c.push_reserved.ensures.capacity (c.reopen_one.ensures.reopens all);
     }
 

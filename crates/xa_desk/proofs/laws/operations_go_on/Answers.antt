@@ -1,4 +1,5 @@
-use Rattle.xa_desk.proofs.GoingOn.{goes_sent, goes_fulls, goes_looking, goes_quiet, goes_collecting, kept_stays, least_stays}
+use Rattle.xa_desk.proofs.GoingOn.{goes_sent, goes_fulls, goes_looking, goes_quiet, goes_collecting, kept_stays}
+use Rattle.xa_desk.proofs.GoingOn.{least_stays}
 use Rattle.xa_desk.proofs.laws.operations_go_on.Goals as goal
 
 pub returns : goal.returns

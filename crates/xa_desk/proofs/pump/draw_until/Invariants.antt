@@ -5,4 +5,5 @@ use Rattle.xa_desk.proofs.pump.draw_until.Given as goal
 
 -- only other completions came
 abbrev pub invariant-loop : goal.invariant-loop
-invariant-loop g l = record { looks : LooksOn l.initial.book l.book; missing : drained_code l.operation l.book.drained ≡ None }
+invariant-loop g l =
+    record { looks : LooksOn l.initial.book l.book; missing : drained_code l.operation l.book.drained ≡ None }

@@ -26,6 +26,11 @@ returns-in-Some-offer-clause-more g c =
 
 pub loop-preserved : goal.loop-preserved
 loop-preserved g c = record {
-  fulls = (suc c.loop.invariant.fulls.0, c.in_default.ensures.full ∙ ap (λ (d : DeskView). after_full d c.args.manager) c.loop.invariant.fulls.1, (_, c.loop.invariant.fulls.2, c.idle.ensures));
+  fulls = (
+    suc c.loop.invariant.fulls.0,
+    c.in_default.ensures.full
+        ∙ ap (λ (d : DeskView). after_full d c.args.manager) c.loop.invariant.fulls.1,
+    (_, c.loop.invariant.fulls.2, c.idle.ensures),
+  );
   idled = g.met.I.Idle.leads_chain _ _ _ c.loop.invariant.idled (g.met.I.Idle.leads_each _ _ _ c.idle.ensures);
 }

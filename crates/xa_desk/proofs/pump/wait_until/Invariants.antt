@@ -11,5 +11,6 @@ invariant-loop g l = record {
   looks : Looks l.initial.book l.book;
   missing : drained_code l.operation l.book.drained ≡ None;
   idled : g.I.Idle.leads l.initial.idle l.idle;
-  waits : Waits (IsMissing l.operation) (g.I.Idle.leads_by l.operation.manager) l.initial.book l.initial.idle l.book l.idle;
+  waits : Waits (IsMissing l.operation) (g.I.Idle.leads_by l.operation.manager) l.initial.book l.initial.idle l.book
+      l.idle;
 }

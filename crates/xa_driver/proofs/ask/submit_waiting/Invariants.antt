@@ -11,6 +11,7 @@ invariant-loop g l = record {
   unsent : l.desk.ledgers ≡ l.initial.desk.ledgers;
   quiet : l.desk.events ≡ l.initial.desk.events;
   keeps : KeepsDesk l.initial.desk l.desk;
-  waits : (fulls : ℕ) × (l.desk ≡ after_fulls fulls l.initial.desk l.manager) × Idles (g.I.Idle.leads_by l.manager) fulls l.initial.idle l.idle;
+  waits : (fulls : ℕ) × (l.desk ≡ after_fulls fulls l.initial.desk l.manager) × Idles (g.I.Idle.leads_by l.manager)
+      fulls l.initial.idle l.idle;
   idled : g.I.Idle.leads l.initial.idle l.idle;
 }

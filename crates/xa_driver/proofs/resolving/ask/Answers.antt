@@ -8,13 +8,20 @@ use Rattle.xa_driver.proofs.resolving.ask.Goals as goal
 
 pub returns-in-Ok : goal.returns-in-Ok
 returns-in-Ok g c =
-    let none : call_refusal c.args.desk.now c.args.manager ≡ None = no_refusal (Ok c.in-Ok.code) c.in-Ok.code _ refl c.in-Ok.ensures.refused in
+    let none : call_refusal c.args.desk.now c.args.manager ≡ None =
+    no_refusal (Ok c.in-Ok.code) c.in-Ok.code _ refl c.in-Ok.ensures.refused in
     let never : put_refusal c.args.desk.now c.args.manager false ≡ None = ap (option_map code_of) none in
     let x = c.in-Ok.ensures.collected in
-    let called = call_answered c.args.manager x.0 c.args.op c.in-Ok.code c.args.desk.now c.call.new.self c.requires none x.1 c.call.ensures.goes_on in
+    let called =
+    call_answered c.args.manager x.0 c.args.op c.in-Ok.code c.args.desk.now c.call.new.self c.requires none x.1
+    c.call.ensures.goes_on in
     record {
       asked = called.asked_;
-      waits = record { answers = answered never x.0 x.1; waits = λ _. c.in-Ok.ensures.waited; stays = λ why. let e : None ≡ Some c.in-Ok.code = sym never ∙ why in cc };
+      waits = record {
+        answers = answered never x.0 x.1;
+        waits = λ _. c.in-Ok.ensures.waited;
+        stays = λ why. let e : None ≡ Some c.in-Ok.code = sym never ∙ why in cc;
+      };
       alone = called.alone;
       room = called.room;
       idled = c.call.ensures.idled;

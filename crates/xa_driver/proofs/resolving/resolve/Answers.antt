@@ -28,9 +28,18 @@ loop-before-init g c = record {
 
 pub resolve_at-requires-clause-space : goal.resolve_at-requires-clause-space
 resolve_at-requires-clause-space g c =
-    let within = left_within c.args.scan.now (c.loop-before.before + 1) MOST_MANAGERS (omega (arith, c.loop-before-test.true)) in
+    let within =
+    left_within c.args.scan.now (c.loop-before.before + 1) MOST_MANAGERS (omega (arith, c.loop-before-test.true)) in
     let more = left_more c.args.scan.now c.loop-before.before in
-    omega (arith, within, more, c.loop-before.invariant.many, c.loop-before.invariant.space, ap (λ l. length l) c.left.ensures)
+    omega (
+      arith,
+      within,
+      more,
+      c.loop-before.invariant.many,
+      c.loop-before.invariant.space,
+      ap (λ l. length l)
+          c.left.ensures,
+    )
 
 pub loop-before-preserved : goal.loop-before-preserved
 loop-before-preserved g c =
@@ -41,27 +50,38 @@ loop-before-preserved g c =
     let (more, items, as_many, resolves, waits) = c.resolve_at.ensures.resolves in
     record {
       so_far =
-          one_more_so_far z (g.L.DecisionRecords.records c.args.log.now) n c.args.desk.now.ledgers c.loop-before.desk.ledgers c.resolve_at.new.desk.ledgers c.loop-before.outcomes.items c.resolve_at.new.outcomes.items more i.so_far items
+          one_more_so_far z (g.L.DecisionRecords.records c.args.log.now) n c.args.desk.now.ledgers
+          c.loop-before.desk.ledgers c.resolve_at.new.desk.ledgers c.loop-before.outcomes.items
+          c.resolve_at.new.outcomes.items more i.so_far items
           (rw c.left.ensures at resolves) alone.others;
       waits =
-          next n (n + 1) c.loop-before.outcomes.items more c.resolve_at.new.outcomes.items (c.loop-before.desk, c.loop-before.idle) (c.resolve_at.new.desk, c.resolve_at.new.idle) i.waits refl
+          next n (n + 1) c.loop-before.outcomes.items more c.resolve_at.new.outcomes.items
+          (c.loop-before.desk, c.loop-before.idle) (c.resolve_at.new.desk, c.resolve_at.new.idle) i.waits refl
           (rw c.left.ensures at waits) items;
       many = search (arith, length-append, left_more, c.loop-before.outcomes.items, c.left.ensures, i.many);
       space = let space = i.space in let same = c.resolve_at.ensures.space in omega (arith, space, same);
       managers = alone.managers ∙ i.managers;
-      rest = rest_chain c.args.desk.now c.loop-before.desk c.resolve_at.new.desk i.rest (alone_rest _ c.loop-before.desk c.resolve_at.new.desk alone);
+      rest = rest_chain c.args.desk.now c.loop-before.desk c.resolve_at.new.desk i.rest
+          (alone_rest _ c.loop-before.desk c.resolve_at.new.desk alone);
       idled = g.met.I.Idle.leads_chain _ _ _ i.idled c.resolve_at.ensures.idled;
     }
 
 all_before : (g : given.Over) (c : goal.After-loop-before g) → c.loop-before.before ≡ MOST_MANAGERS
-all_before g c = let done = c.loop-before-test.false in let stop = c.loop-before.auto.before-end in omega (arith, done, stop)
+all_before g c =
+    let done = c.loop-before-test.false in let stop = c.loop-before.auto.before-end in omega (arith, done, stop)
 
 pub returns-clause-trace : goal.returns-clause-trace
-returns-clause-trace g c = record { course = rw (all_before g c) at c.loop-before.invariant.so_far; managers = c.loop-before.invariant.managers }
+returns-clause-trace g c =
+    record {
+      course = rw (all_before g c) at c.loop-before.invariant.so_far;
+      managers = c.loop-before.invariant.managers;
+    }
 
 pub returns-clause-waited : goal.returns-clause-waited
 returns-clause-waited g c = rw (all_before g c) at c.loop-before.invariant.waits
 
 pub returns-clause-in_turn : goal.returns-clause-in_turn
 returns-clause-in_turn g c =
-    turns_by (λ s. s.0) (AsksAndWaits g.I.Idle.leads_by) Answers (λ m d op e code a. a.answers) (g.L.DecisionRecords.records c.args.log.now) c.args.scan.now (c.args.desk.now, c.args.idle.now) MOST_MANAGERS c.loop-before.outcomes.items (c.loop-before.desk, c.loop-before.idle) (returns-clause-waited g c)
+    turns_by (λ s. s.0) (AsksAndWaits g.I.Idle.leads_by) Answers (λ m d op e code a. a.answers)
+    (g.L.DecisionRecords.records c.args.log.now) c.args.scan.now (c.args.desk.now, c.args.idle.now) MOST_MANAGERS
+    c.loop-before.outcomes.items (c.loop-before.desk, c.loop-before.idle) (returns-clause-waited g c)

@@ -11,14 +11,17 @@ returns-clause-resolves g c = record {
   decided = ledger c.ask-code.new.desk.ledgers c.args.manager;
   obeys = rw c.outcome_op.ensures at c.ask-code.ensures.asked;
   forgets = elim c.if-is_decided.branch [
-    | then-is_decided w ↦ rw (w.desk-is, (sym c.is_decided.ensures ∙ w.if-is_decided.true)) (w.ask.result, w.ask.ensures.asked)
+    | then-is_decided w ↦ rw (w.desk-is, (sym c.is_decided.ensures ∙ w.if-is_decided.true))
+        (w.ask.result, w.ask.ensures.asked)
     | else-is_decided w ↦ rw (w.desk-is, (sym c.is_decided.ensures ∙ w.if-is_decided.false))
   ];
 }
 
 pub returns-clause-alone : goal.returns-clause-alone
 returns-clause-alone g c = elim c.if-is_decided.branch [
-  | then-is_decided w ↦ rw w.desk-is (alone_chain c.args.manager c.args.desk.now c.ask-code.new.desk w.ask.new.desk c.ask-code.ensures.alone w.ask.ensures.alone)
+  | then-is_decided w ↦ rw w.desk-is
+      (alone_chain c.args.manager c.args.desk.now c.ask-code.new.desk w.ask.new.desk c.ask-code.ensures.alone
+      w.ask.ensures.alone)
   | else-is_decided w ↦ rw w.desk-is c.ask-code.ensures.alone
 ]
 
@@ -29,7 +32,8 @@ returns-clause-waits g c = record {
   decided = (c.ask-code.new.desk, c.ask-code.new.idle);
   obeys = rw c.outcome_op.ensures at c.ask-code.ensures.waits;
   forgets = elim c.if-is_decided.branch [
-    | then-is_decided w ↦ rw (w.desk-is, w.idle-is, (sym c.is_decided.ensures ∙ w.if-is_decided.true)) (w.ask.result, w.ask.ensures.waits)
+    | then-is_decided w ↦ rw (w.desk-is, w.idle-is, (sym c.is_decided.ensures ∙ w.if-is_decided.true))
+        (w.ask.result, w.ask.ensures.waits)
     | else-is_decided w ↦ rw (w.desk-is, w.idle-is, (sym c.is_decided.ensures ∙ w.if-is_decided.false))
   ];
 }

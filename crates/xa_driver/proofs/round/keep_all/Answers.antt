@@ -16,8 +16,10 @@ loop-place-preserved c =
     record {
       owned = rest_owned d d1 t ts (rw first at c.loop-place.invariant.owned) c.keep.ensures.others;
       kept = λ but. kept_one_more d d1 t ts (rw first at (c.loop-place.invariant.kept but)) c.keep.ensures.kept;
-      left = left_one_more c.args.tickets.now.items c.args.desk.now d d1 t ts last c.loop-place.invariant.left c.keep.ensures.kept c.keep.ensures.others;
-      goes_on = c.desks_go_on.ensures.further c.args.desk.now d d1 c.loop-place.invariant.goes_on c.keep.ensures.goes_on;
+      left = left_one_more c.args.tickets.now.items c.args.desk.now d d1 t ts last c.loop-place.invariant.left
+          c.keep.ensures.kept c.keep.ensures.others;
+      goes_on = c.desks_go_on.ensures.further c.args.desk.now d d1 c.loop-place.invariant.goes_on
+          c.keep.ensures.goes_on;
       last = last_more t ts c.args.tickets.now.items last;
       counted = let a = ap (λ l. length l) first in let b = c.loop-place.invariant.counted in omega (arith, a, b);
     }

@@ -4,7 +4,7 @@ use Rattle.xa_driver.proofs.Requests.{same_itself}
 use Rattle.xa_driver.proofs.stages.begin_prepare.Goals as goal
 
 pub new-requires-clause-rising : goal.new-requires-clause-rising
-new-requires-clause-rising g c = rw c.in_ok-asks.ensures (first_rising 0 c.args.branches.now c.requires.rising)
+new-requires-clause-rising c = rw c.in_ok-asks.ensures (first_rising 0 c.args.branches.now c.requires.rising)
 
 pub returns-clause-preparing : goal.returns-clause-preparing
-returns-clause-preparing g c = grind (arith, length-map, tran_first, same_itself)
+returns-clause-preparing c = grind (arith, length-map, tran_first, same_itself)

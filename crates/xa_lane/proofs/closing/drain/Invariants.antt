@@ -8,5 +8,7 @@ abbrev pub invariant-loop : goal.invariant-loop
 invariant-loop g l = record {
   of_line : IsPassOf l.line l.pass;
   room : MOST_QUEUED ≤ vec_capacity l.left;
-  claim : (held : List (Parcel g.row.T.Denot)) × (view l.pass ≡ Receives (made_in (view l.fn.pass)) (taken_in (view l.fn.pass) ++ held) (told_in (view l.fn.pass))) × (l.left.items ≡ items_in held);
+  claim : (held : List (Parcel g.row.T.Denot))
+      × (view l.pass ≡ Receives (made_in (view l.fn.pass)) (taken_in (view l.fn.pass) ++ held)
+      (told_in (view l.fn.pass))) × (l.left.items ≡ items_in held);
 }

@@ -10,8 +10,10 @@ loop-place-init c = none_read c.args.bytes.now c.in_ok-table.ensures
 pub returns-then-is_some-clause-refused : goal.returns-then-is_some-clause-refused
 returns-then-is_some-clause-refused c = λ other.
     let at = is_there c.place_of.result (sym c.is_some.ensures ∙ c.if-is_some.true) in
-    twice_named c.loop-place.place c.args.count c.loop-place.table.slots.items c.args.bytes.now c.in-Some-found.record c.loop-place-test.true
-    c.requires.size (rw (c.in-Some-found.is, c.slot_of.ensures.bytes) at c.in-Some.ensures.found) c.loop-place.invariant (at.0, rw at.1 at c.place_of.ensures.there)
+    twice_named c.loop-place.place c.args.count c.loop-place.table.slots.items c.args.bytes.now
+    c.in-Some-found.record c.loop-place-test.true
+    c.requires.size (rw (c.in-Some-found.is, c.slot_of.ensures.bytes) at c.in-Some.ensures.found) c.loop-place.invariant
+    (at.0, rw at.1 at c.place_of.ensures.there)
 
 pub loop-place-preserved : goal.loop-place-preserved
 loop-place-preserved c = elim c.match-found.branch [
@@ -23,4 +25,13 @@ loop-place-preserved c = elim c.match-found.branch [
 ]
 
 pub returns-clause-stands : goal.returns-clause-stands
-returns-clause-stands c = search (arith, all_read, c.loop-place.invariant, c.loop-place.table.indexed, c.loop-place-test.false, c.requires.few, c.requires.size)
+returns-clause-stands c =
+    search (
+      arith,
+      all_read,
+      c.loop-place.invariant,
+      c.loop-place.table.indexed,
+      c.loop-place-test.false,
+      c.requires.few,
+      c.requires.size,
+    )

@@ -3,4 +3,6 @@ use Rattle.xa_log_file.proofs.Places.{IsAnew}
 use Rattle.xa_log_file.proofs.slot_table.shut_all.Given as goal
 
 abbrev pub invariant-loop-place : goal.invariant-loop-place
-invariant-loop-place l = IsAnew l.place l.fn.slots.items l.slots.items (from_entries l.places.entries) (hash_map_len l.places) (spare l.places)
+invariant-loop-place l =
+    IsAnew l.place l.fn.slots.items l.slots.items (from_entries l.places.entries) (hash_map_len l.places)
+    (spare l.places)

@@ -4,7 +4,8 @@ use Rattle.xa_log_file.proofs.spelling.fields.Goals as goal
 
 pub returns : goal.returns
 returns c =
-    let format : c.to_be_bytes.result ≡ to_be_bytes w32 (cast_unsigned w32 c.args.decision.now.tran.format) = search (arith, to_z-of_z, c.format.result) in
+    let format : c.to_be_bytes.result ≡ to_be_bytes w32 (cast_unsigned w32 c.args.decision.now.tran.format) =
+    search (arith, to_z-of_z, c.format.result) in
     let few : length c.args.decision.now.tran.gtrid ≤ 64 = search (arith, part_few, c.gtrid-gtrid.result.now) in
     rw (
       c.copy_from_slice.ensures.after,

@@ -7,14 +7,19 @@ returns-in_err-write_at-clause-now g c = torn_now c.requires.within c.requires.d
 
 pub returns-in_err-write_at-clause-any_moment : goal.returns-in_err-write_at-clause-any_moment
 returns-in_err-write_at-clause-any_moment g c =
-    written c.requires.within c.requires.durable (g.met.D.Device.only_now c.args.device.now) c.write_at.ensures.crash c.write_at.ensures.time
+    written c.requires.within c.requires.durable (g.met.D.Device.only_now c.args.device.now) c.write_at.ensures.crash
+    c.write_at.ensures.time
 
 pub returns-in_err-sync-clause-now : goal.returns-in_err-sync-clause-now
-returns-in_err-sync-clause-now g c = search (arith, torn_now, c.requires.within, c.requires.durable, c.write_at.ensures.crash, c.in_err-sync.ensures.crash)
+returns-in_err-sync-clause-now g c =
+    search
+    (arith, torn_now, c.requires.within, c.requires.durable, c.write_at.ensures.crash, c.in_err-sync.ensures.crash)
 
 pub returns-in_err-sync-clause-any_moment : goal.returns-in_err-sync-clause-any_moment
 returns-in_err-sync-clause-any_moment g c =
-    goes_on (written c.requires.within c.requires.durable (g.met.D.Device.only_now c.args.device.now) c.write_at.ensures.crash c.write_at.ensures.time)
+    goes_on
+    (written c.requires.within c.requires.durable (g.met.D.Device.only_now c.args.device.now)
+    c.write_at.ensures.crash c.write_at.ensures.time)
     c.sync.ensures.time (returns-in_err-sync-clause-now g c)
 
 pub returns-clause-now : goal.returns-clause-now
@@ -22,7 +27,9 @@ returns-clause-now g c = λ f now. all_written (c.in_ok-sync.ensures.durable f n
 
 pub returns-clause-any_moment : goal.returns-clause-any_moment
 returns-clause-any_moment g c =
-    goes_on (written c.requires.within c.requires.durable (g.met.D.Device.only_now c.args.device.now) c.write_at.ensures.crash c.write_at.ensures.time)
+    goes_on
+    (written c.requires.within c.requires.durable (g.met.D.Device.only_now c.args.device.now)
+    c.write_at.ensures.crash c.write_at.ensures.time)
     c.sync.ensures.time (returns-clause-now g c)
 
 pub returns-clause-durable : goal.returns-clause-durable

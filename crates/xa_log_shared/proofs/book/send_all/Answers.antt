@@ -10,9 +10,14 @@ loop-one-preserved g c =
     let lanes = c.loop-one.answers.items in
     let within : a.from < length lanes =
     rw c.one-item.is (omega (arith, c.requires i a c.loop-one-test.true, c.loop-one.invariant.len)) in
-    let more : take (i + 1) done ≡ take i done ++ a ∷ [] = take_more done i a c.loop-one-test.true ∙ ap (λ x. take i done ++ x ∷ []) (sym c.one-item.is) in
+    let more : take (i + 1) done ≡ take i done ++ a ∷ [] =
+    take_more done i a c.loop-one-test.true ∙ ap (λ x. take i done ++ x ∷ []) (sym c.one-item.is) in
     record {
       len = length-set lanes a.from c.send.new.sender ∙ c.loop-one.invariant.len;
       sent =
-          rw more (sent_chain (take i done) (a ∷ []) c.args.answers.now.items lanes (set lanes a.from c.send.new.sender) c.loop-one.invariant.sent (lane_sent lanes c.index_mut.result.now c.send.new.sender a within c.index_mut.ensures.value c.send.ensures));
+          rw more
+          (sent_chain (take i done) (a ∷ []) c.args.answers.now.items lanes (set lanes a.from c.send.new.sender)
+          c.loop-one.invariant.sent
+          (lane_sent lanes c.index_mut.result.now c.send.new.sender a within c.index_mut.ensures.value
+          c.send.ensures));
     }

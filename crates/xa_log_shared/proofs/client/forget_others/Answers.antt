@@ -11,7 +11,9 @@ loop-tran-preserved-then-not-contains g c =
     let ts = c.args.trans.now in
     let tran = c.in-Some.tran.now in
     let (done, left, asked) = c.loop-tran.invariant in
-    let next = rest_more deref_pair c.loop-tran.tran-iterator c.next.new.self c.next.result _ c.in-Some.is c.next.ensures.steps in
+    let next =
+    rest_more deref_pair c.loop-tran.tran-iterator c.next.new.self c.next.result _ c.in-Some.is
+    c.next.ensures.steps in
     let isnt : is_among c.args.trans.now c.in-Some.tran.now ≡ false = search rules in (
       done ++ tran ∷ [],
       append_assoc done (tran ∷ []) (others ts c.next.new.self)
@@ -23,6 +25,8 @@ pub loop-tran-preserved : goal.loop-tran-preserved
 loop-tran-preserved g c =
     let ts = c.args.trans.now in
     let (done, left, asked) = c.loop-tran.invariant in
-    let next = rest_more deref_pair c.loop-tran.tran-iterator c.next.new.self c.next.result _ c.in-Some.is c.next.ensures.steps in
+    let next =
+    rest_more deref_pair c.loop-tran.tran-iterator c.next.new.self c.next.result _ c.in-Some.is
+    c.next.ensures.steps in
     let is : is_among c.args.trans.now c.in-Some.tran.now ≡ true = search rules in
     (done, ap (λ l. done ++ l) (sym (others_past ts _ c.loop-tran.tran-iterator c.next.new.self next is)) ∙ left, asked)

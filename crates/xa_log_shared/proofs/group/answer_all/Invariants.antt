@@ -7,5 +7,6 @@ abbrev pub invariant-loop-one : goal.invariant-loop-one
 invariant-loop-one l = record {
   done : l.done.items ≡ answer_each l.answer (take l.one-index l.waiting);
   space : vec_capacity l.done ≡ vec_capacity l.initial.done;
-  deeds : deeds_in l.deeds.items ≡ deeds_in l.initial.deeds.items ++ map Answers (answer_each l.answer (take l.one-index l.waiting));
+  deeds : deeds_in l.deeds.items ≡ deeds_in l.initial.deeds.items ++ map Answers
+      (answer_each l.answer (take l.one-index l.waiting));
 }

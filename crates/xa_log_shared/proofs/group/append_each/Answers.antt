@@ -11,7 +11,9 @@ loop-one-preserved g c =
     let w = c.one-item.result in
     let a = answered_by w.from w.decision c.append_one-answer.result in
     let does = c.append_one-answer.ensures.does w.from in
-    let more : take (i + 1) ws ≡ take i ws ++ w ∷ [] = take_more ws i w c.loop-one-test.true ∙ ap (λ x. take i ws ++ x ∷ []) (sym c.one-item.is) in
+    let more : take (i + 1) ws ≡ take i ws ++ w ∷ [] =
+    take_more ws i w c.loop-one-test.true ∙ ap (λ x. take i ws ++ x ∷ []) (sym c.one-item.is) in
     let new =
-    λ (known : c.loop-one.is_known ≡ true). rw (drop_more ws i w c.loop-one-test.true c.one-item.is) at (c.loop-one.invariant.new known) in
+    λ (known : c.loop-one.is_known ≡ true). rw (drop_more ws i w c.loop-one-test.true c.one-item.is) at
+    (c.loop-one.invariant.new known) in
     search (arith, new_after, settles_next, c.loop-one.is_known)

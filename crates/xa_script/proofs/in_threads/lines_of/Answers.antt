@@ -12,7 +12,8 @@ pub loop-attended-preserved : goal.loop-attended-preserved
 loop-attended-preserved c =
     let before = c.loop-attended.yielded in
     record {
-      so_far = taken_next before _ (into_iter_items c.next.new.self) _ c.in-Some.attended c.in-Some.ensures.steps.0 c.loop-attended.invariant.so_far;
+      so_far = taken_next before _ (into_iter_items c.next.new.self) _ c.in-Some.attended c.in-Some.ensures.steps.0
+          c.loop-attended.invariant.so_far;
       done = All-push IsDone before c.in-Some.attended c.loop-attended.invariant.done c.in_ok-tell.ensures.done;
       told = search (arith, flat_map-append, flat_map, flat_push);
     }

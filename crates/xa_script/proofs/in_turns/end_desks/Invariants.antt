@@ -2,7 +2,8 @@ use Rattle.xa_base.proofs.{◌≡◌, ◌≤◌, ◌++◌, [], length, map, vec_
 use Rattle.xa_script.specs.{closing_of, HaveEnded}
 use Rattle.xa_script.proofs.in_turns.end_desks.Given as goal
 
--- the first desks have ended, and their threads' logs were given; the others are still to come, and there is room for each
+-- the first desks have ended, and their threads' logs were given; the others are still to come, and there is room for
+-- each
 abbrev pub invariant-loop-session : goal.invariant-loop-session
 invariant-loop-session g l = record {
   so_far : l.yielded ++ into_iter_items l.session-iterator ≡ l.fn.sessions.items;

@@ -7,8 +7,11 @@ use Rattle.xa_script.proofs.outcome.show.Goals as goal
 
 pub values_of-requires : goal.values_of-requires
 values_of-requires g c =
-    let (answers, h) = c.requires in
-    (map (λ (f : Former). f.opening.settled) h.before, rw h.settles at (managers_so h.mode c.args.script.now answers h.before h.last h.outcome))
+    let (answers, h) = c.requires in (
+      map (λ (f : Former). f.opening.settled) h.before,
+      rw h.settles at
+          (managers_so h.mode c.args.script.now answers h.before h.last h.outcome),
+    )
 
 pub returns-clause-ok : goal.returns-clause-ok
 returns-clause-ok g c =
@@ -18,7 +21,8 @@ returns-clause-ok g c =
     let new = g.W.Write.contents c.write_transcript.new.writer in
     on_ok_weaker c.write_transcript.result (λ written m answers before last are outcome same.
     let managers = rw same at (managers_so m s answers before last outcome) in
-    let shown : AreValues s (settled_over before last) values = rw same (c.in_ok-values.ensures (map (λ (f : Former). f.opening.settled) before) managers) in
+    let shown : AreValues s (settled_over before last) values =
+    rw same (c.in_ok-values.ensures (map (λ (f : Former). f.opening.settled) before) managers) in
     record {
       answers = answers;
       former = before;

@@ -1,4 +1,5 @@
-use Rattle.xa_base.proofs.{◌+◌, sym, ap, ◌∙◌, ◌++◌, ◌∷◌, [], map, length, arith, range_with_len, map-append, length-append, All-push}
+use Rattle.xa_base.proofs.{◌+◌, sym, ap, ◌∙◌, ◌++◌, ◌∷◌, [], map, length, arith, range_with_len, map-append}
+use Rattle.xa_base.proofs.{length-append, All-push}
 use Rattle.std.proofs.lemmas.List.FromFn.{map-range_with_len_more}
 use Rattle.xa_switch.specs.{IsSoundManager}
 use Rattle.laws_transcript.specs.{script_says, plan_says}
@@ -16,6 +17,7 @@ loop-before-preserved c =
           ∙ ap (λ l. l ++ plan_says one ∷ []) c.loop-before.invariant.planned_so_far
           ∙ ap (λ d. map says (range_with_len 1 c.loop-before.before) ++ d ∷ []) c.in_ok-manager_plan.ensures.planned
           ∙ sym (map-range_with_len_more says 1 c.loop-before.before (c.loop-before.before + 1) (omega arith));
-      sound = rw pushed (All-push IsSoundManager plans one c.loop-before.invariant.sound c.in_ok-manager_plan.ensures.sound);
+      sound = rw pushed
+          (All-push IsSoundManager plans one c.loop-before.invariant.sound c.in_ok-manager_plan.ensures.sound);
       many = ap (λ l. length l) pushed ∙ length-append plans (one ∷ []) ∙ ap (λ k. k + 1) c.loop-before.invariant.many;
     }

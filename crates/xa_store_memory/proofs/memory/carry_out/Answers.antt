@@ -9,7 +9,9 @@ loop-request-preserved c =
     let r = c.request-item.result in
     let more = one_more requests n r c.loop-request-test.true c.request-item.is in
     record {
-      tables = carried_on (take n requests) (take (n + 1) requests) r c.args.manager.now.tables c.loop-request.manager.tables c.apply.new.self.tables
+      tables =
+          carried_on (take n requests) (take (n + 1) requests) r c.args.manager.now.tables c.loop-request.manager.tables
+          c.apply.new.self.tables
           c.apply.result more c.apply.ensures.step c.loop-request.invariant.tables;
       threads = search rules;
       room = search rules;

@@ -5,7 +5,8 @@ use Rattle.xa_store_sqlite.proofs.database.over.Goals as goal
 
 pub returns-clause-usable : goal.returns-clause-usable
 returns-clause-usable g c =
-    are_usable (c.args.files.log, c.args.files.db) (files_of c.in_ok-with_sums.field-0) (λ d. d.is_usable) (c.in_ok-with_sums.ensures.files ∙ c.in_ok-pager.ensures.files)
+    are_usable (c.args.files.log, c.args.files.db) (files_of c.in_ok-with_sums.field-0) (λ d. d.is_usable)
+    (c.in_ok-with_sums.ensures.files ∙ c.in_ok-pager.ensures.files)
     (sym c.if-not-may_be_used.ensures)
 
 pub returns-clause-files : goal.returns-clause-files

@@ -8,8 +8,10 @@ pub loop-slot-preserved : goal.loop-slot-preserved
 loop-slot-preserved c = λ apart x.
     let bs = c.args.branches.now in
     let count : c.in-Ok.count ≡ length c.args.branches.now = search (arith, rules) in
-    next_slot bs c.loop-slot.slot c.index-branches-slot.result x (lookup (xid_eq x) c.loop-slot.slots.entries) (lookup (xid_eq x) c.note_slot.new.slots.entries) apart
-    (omega (arith, c.loop-slot-test.true, count)) c.index-branches-slot.is (c.loop-slot.invariant apart x) (c.in_ok-note_slot.ensures x)
+    next_slot bs c.loop-slot.slot c.index-branches-slot.result x (lookup (xid_eq x) c.loop-slot.slots.entries)
+    (lookup (xid_eq x) c.note_slot.new.slots.entries) apart
+    (omega (arith, c.loop-slot-test.true, count)) c.index-branches-slot.is (c.loop-slot.invariant apart x)
+    (c.in_ok-note_slot.ensures x)
 
 pub returns : goal.returns
 returns c = λ apart x.

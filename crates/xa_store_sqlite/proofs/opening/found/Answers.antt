@@ -12,5 +12,6 @@ returns-clause-knows g c = λ fresh knows owned.
     let image = image_of c.args.mirror in
     let trees = c.args.tables.trees in
     known_at view recovers (ap (λ t. t.trees) e.tables)
-    (known (view trees) (recovers trees) p.1.slots.entries p.1.places.entries image (image_of p.1.mirror) p.0.tables (ap image_of e.mirror) e.has
+    (known (view trees) (recovers trees) p.1.slots.entries p.1.places.entries image (image_of p.1.mirror) p.0.tables
+    (ap image_of e.mirror) e.has
     (settled_found (view trees) (recovers trees) image fresh knows c.are_committed.ensures) (e.order owned))

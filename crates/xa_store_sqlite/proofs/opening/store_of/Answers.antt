@@ -2,7 +2,7 @@ use Rattle.xa_base.proofs.{◌≡◌, ◌∙◌, [], ◌||◌, ap, arith, false,
 use Rattle.sqlite_trees.specs.View.{IsClean}
 use Rattle.xa_tables.specs.{reopened}
 use Rattle.xa_store.specs.{AreDurable}
-use Rattle.xa_store_sqlite.specs.{KnowsAllBut, Leaves, image_of}
+use Rattle.xa_store_sqlite.specs.{KnowsAllBut, LeavesTables, image_of}
 use Rattle.xa_store_sqlite.proofs.FromFile.{leaves}
 use Rattle.xa_store_sqlite.proofs.Settled.{durable_now}
 use Rattle.xa_store_sqlite.proofs.opening.store_of.Goals as goal
@@ -14,10 +14,16 @@ returns-clause-knows g c = λ T k well.
     let s = c.in_ok-store.store in
     let e = c.in_ok-store.ensures in
     let kept = c.args.kept in
-    subst (λ p. KnowsAllBut s.told.branches.keys s.are_moved (view p.tables.trees) (recovers p.tables.trees) (image_of p.mirror) p.slots.entries p.places.entries T) (sym e.kept)
-    (subst (λ keys. KnowsAllBut keys s.are_moved (view kept.tables.trees) (recovers kept.tables.trees) (image_of kept.mirror) kept.slots.entries kept.places.entries T)
+    subst
+    (λ p. KnowsAllBut s.told.branches.keys s.are_moved (view p.tables.trees) (recovers p.tables.trees)
+    (image_of p.mirror) p.slots.entries p.places.entries T) (sym e.kept)
+    (subst
+    (λ keys. KnowsAllBut keys s.are_moved (view kept.tables.trees) (recovers kept.tables.trees)
+    (image_of kept.mirror) kept.slots.entries kept.places.entries T)
     (sym e.told)
-    (subst (λ b. KnowsAllBut [] b (view kept.tables.trees) (recovers kept.tables.trees) (image_of kept.mirror) kept.slots.entries kept.places.entries T) (sym e.moved) k))
+    (subst
+    (λ b. KnowsAllBut [] b (view kept.tables.trees) (recovers kept.tables.trees) (image_of kept.mirror)
+    kept.slots.entries kept.places.entries T) (sym e.moved) k))
 
 pub returns-clause-owes : goal.returns-clause-owes
 returns-clause-owes g c =
@@ -30,13 +36,18 @@ returns-clause-durable g c = λ T k.
     let view = g.S.Store.view in
     let recovers = g.S.Store.recovers in
     let kept = c.args.kept in
-    subst (λ p. AreDurable (Leaves (view p.tables.trees) (recovers p.tables.trees)) T) (sym c.in_ok-store.ensures.kept)
-    (durable_now (view kept.tables.trees) (recovers kept.tables.trees) (image_of kept.mirror) kept.slots.entries kept.places.entries T k)
+    subst (λ p. AreDurable (LeavesTables (view p.tables.trees) (recovers p.tables.trees)) T)
+    (sym c.in_ok-store.ensures.kept)
+    (durable_now (view kept.tables.trees) (recovers kept.tables.trees) (image_of kept.mirror) kept.slots.entries
+    kept.places.entries T k)
 
 pub returns-clause-left : goal.returns-clause-left
 returns-clause-left g c = λ T k.
     let view = g.S.Store.view in
     let recovers = g.S.Store.recovers in
     let trees = c.args.kept.tables.trees in
-    subst (λ p. IsClean (view p.tables.trees) → Leaves (view p.tables.trees) (recovers p.tables.trees) (reopened T)) (sym c.in_ok-store.ensures.kept)
-    (leaves (view trees) (recovers trees) (image_of c.args.kept.mirror) T k.settled k.has c.stays.ensures.stays c.stays.ensures.broken)
+    subst
+    (λ p. IsClean (view p.tables.trees) → LeavesTables (view p.tables.trees) (recovers p.tables.trees) (reopened T))
+    (sym c.in_ok-store.ensures.kept)
+    (leaves (view trees) (recovers trees) (image_of c.args.kept.mirror) T k.settled k.has c.stays.ensures.stays
+    c.stays.ensures.broken)

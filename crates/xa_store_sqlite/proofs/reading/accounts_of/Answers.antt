@@ -1,5 +1,5 @@
-use Rattle.xa_base.proofs.{◌≡◌, ◌<◌, ◌≤◌, ◌∙◌, ◌∷◌, [], All, All-append, All-cons, All-nil, Err, List, None, Some, ap, arith, length, length-append, rules}
-use Rattle.xa_base.proofs.{subst, sym, ℕ, ⊎_elim, cases_lt}
+use Rattle.xa_base.proofs.{◌≡◌, ◌<◌, ◌≤◌, ◌∙◌, ◌∷◌, [], All, All-append, All-cons, All-nil, Err, List, None, Some, ap}
+use Rattle.xa_base.proofs.{arith, length, length-append, rules, subst, sym, ℕ, ⊎_elim, cases_lt}
 use Rattle.xa_base.specs.declared.limits.TheConstants.{MOST_VALUE}
 use Rattle.xa_slots.specs.{rows_from}
 use Rattle.xa_store_sqlite.specs.{IsAccount, item_at}
@@ -15,7 +15,9 @@ by_place n k P le below at =
 pub loop-slot-preserved-in_default : goal.loop-slot-preserved-in_default
 loop-slot-preserved-in_default c = record {
   rows = c.loop-slot.invariant.rows
-      ∙ sym (passed_free c.args.slots.now c.loop-slot.slot c.index-slots-slot.result c.loop-slot-test.true c.index-slots-slot.is c.in_default.is);
+      ∙ sym
+      (passed_free c.args.slots.now c.loop-slot.slot c.index-slots-slot.result c.loop-slot-test.true
+      c.index-slots-slot.is c.in_default.is);
   small = c.loop-slot.invariant.small;
   within = let le = c.loop-slot.invariant.within in omega (arith, le);
   free = λ less.
@@ -23,7 +25,8 @@ loop-slot-preserved-in_default c = record {
       let n = length c.loop-slot.accounts.items in
       let slots = c.args.slots.now in
       by_place n c.loop-slot.slot (λ k. item_at slots k ≡ None) (omega (arith, less)) i.free
-      (item_read slots c.loop-slot.slot c.index-slots-slot.result c.loop-slot-test.true c.index-slots-slot.is ∙ c.in_default.is);
+      (item_read slots c.loop-slot.slot c.index-slots-slot.result c.loop-slot-test.true c.index-slots-slot.is
+      ∙ c.in_default.is);
 }
 
 pub loop-slot-preserved : goal.loop-slot-preserved
@@ -35,8 +38,10 @@ loop-slot-preserved c =
     let count : c.loop-slot.slot ≡ length c.loop-slot.accounts.items = search (arith, rules) in
     record {
       rows = ap (λ (l : List (List ℕ × ℕ)). rows_from 1 (slots_in l)) c.in_ok-push-in-Ok.ensures.items
-          ∙ next_account accounts c.args.slots.now c.loop-slot.slot c.index-slots-slot.result a c.loop-slot-test.true c.index-slots-slot.is (c.in-Some.is ∙ ap Some c.in-Ok.ensures.account) count i.rows;
-      small = subst (All P) (sym c.in_ok-push-in-Ok.ensures.items) (All-append P accounts (a ∷ []) i.small (All-cons P a [] c.in-Ok.ensures.small (All-nil P)));
+          ∙ next_account accounts c.args.slots.now c.loop-slot.slot c.index-slots-slot.result a c.loop-slot-test.true
+          c.index-slots-slot.is (c.in-Some.is ∙ ap Some c.in-Ok.ensures.account) count i.rows;
+      small = subst (All P) (sym c.in_ok-push-in-Ok.ensures.items)
+          (All-append P accounts (a ∷ []) i.small (All-cons P a [] c.in-Ok.ensures.small (All-nil P)));
       within = let more = ap length c.in_ok-push-in-Ok.ensures.items in
           let long = length-append accounts (a ∷ []) in
           omega (arith, more, long, count);
@@ -49,7 +54,8 @@ loop-slot-preserved c =
 pub returns-in-Err-clause-refused : goal.returns-in-Err-clause-refused
 returns-in-Err-clause-refused c = λ number room trees same.
     bad_account trees c.loop-slot.slot c.in-Err.fault (λ is. c.in-Err.ensures.alone (ap Err is))
-    (bad_at (λ row. IsAccount row → ⊥) (trees 0) c.args.slots.now c.loop-slot.slot c.index-slots-slot.result c.in-Some.row same c.loop-slot-test.true
+    (bad_at (λ row. IsAccount row → ⊥) (trees 0) c.args.slots.now c.loop-slot.slot c.index-slots-slot.result
+    c.in-Some.row same c.loop-slot-test.true
     c.index-slots-slot.is c.in-Some.is c.in-Err.ensures.refused)
 
 pub returns-then-slot-len-clause-refused : goal.returns-then-slot-len-clause-refused
@@ -58,5 +64,6 @@ returns-then-slot-len-clause-refused c = λ number room trees same.
     let le = i.within in
     let count : c.len.result ≡ length c.loop-slot.accounts.items = search (arith, rules) in
     let less : length c.loop-slot.accounts.items < c.loop-slot.slot = omega (arith, count, le) in
-    gap_at (trees 0) c.args.slots.now c.loop-slot.slot (length c.loop-slot.accounts.items) c.index-slots-slot.result c.in-Some.row same c.loop-slot-test.true
+    gap_at (trees 0) c.args.slots.now c.loop-slot.slot (length c.loop-slot.accounts.items) c.index-slots-slot.result
+    c.in-Some.row same c.loop-slot-test.true
     c.index-slots-slot.is c.in-Some.is less (i.free less)

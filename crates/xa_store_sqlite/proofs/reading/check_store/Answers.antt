@@ -11,4 +11,5 @@ returns-in-Err-clause-refused c = λ room trees same.
 
 pub returns-in-Err-clause-others : goal.returns-in-Err-clause-others
 returns-in-Err-clause-others c = λ wanted is.
-    let r = other_row c.args.number wanted c.args.row.now is in absurd (c.in-Err.ensures.refused r.version r.number r.row_is)
+    let r = other_row c.args.number wanted c.args.row.now is in
+    absurd (c.in-Err.ensures.refused r.version r.number r.row_is)

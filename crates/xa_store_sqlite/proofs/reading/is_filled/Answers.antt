@@ -1,9 +1,10 @@
-use Rattle.xa_base.proofs.{◌≡◌, ◌∙◌, ◌∷◌, [], List, Some, ap, arith, inl, inr, ints, of_z, subst, sym, to_z, to_z-of_z, ℤ, w64, err_from_is_err_and}
+use Rattle.xa_base.proofs.{◌≡◌, ◌∙◌, ◌∷◌, [], List, Some, ap, arith, inl, inr, ints, of_z, subst, sym, to_z, to_z-of_z}
+use Rattle.xa_base.proofs.{ℤ, w64, err_from_is_err_and}
 use Rattle.sqlite_disk.specs.Disk.{MoreFaults}
 use Rattle.sqlite_value.specs.Order.{Row}
 use Rattle.xa_slots.specs.{rows_from}
 use Rattle.xa_store_sqlite.specs.declared.fault.Table.TheVariants.{Store}
-use Rattle.xa_store_sqlite.specs.{IsOther, IsRefused, store_cells}
+use Rattle.xa_store_sqlite.specs.{IsOther, StoreIsRefused, store_cells}
 use Rattle.xa_store_sqlite.proofs.Branches.{read_some}
 use Rattle.xa_store_sqlite.proofs.Changes.{clean_before}
 use Rattle.xa_store_sqlite.proofs.Refused.{free_slot, not_other, not_unsaid, one_slot, other_unread, rows_refuse}
@@ -16,14 +17,18 @@ returns-in_err-check_store-in-Some-Some-clause-refused g c = λ room clean.
     let slots = c.in_ok-slots.slots.items in
     let row = c.in-Some-Some.row in
     let is =
-    read_some slots c.deref.result.now 0 c.get.result c.in-Some-Some.field-0 c.deref.ensures.value c.get.ensures.lookup c.in-Some-Some.is
+    read_some slots c.deref.result.now 0 c.get.result c.in-Some-Some.field-0 c.deref.ensures.value c.get.ensures.lookup
+    c.in-Some-Some.is
     ∙ c.in-Some-Some.field-0-is in
-    let same = c.in_ok-slots.ensures.rows clean ∙ ap (rows_from 1) (one_slot slots row c.in_ok-slots.ensures.count is) in
-    let p = err_from_is_err_and c.from_residual-in_err-check_store-in-Some-Some.result c.from_residual-in_err-check_store-in-Some-Some.ensures.1 in
+    let same = c.in_ok-slots.ensures.rows clean ∙ ap (rows_from 1) (one_slot slots row c.in_ok-slots.ensures.few is) in
+    let p =
+    err_from_is_err_and c.from_residual-in_err-check_store-in-Some-Some.result
+    c.from_residual-in_err-check_store-in-Some-Some.ensures.1 in
     let fault = c.in_err-check_store-in-Some-Some.field-0.0 in
     rw (p.1, p.2)
-    (subst (λ (n : ℤ). IsRefused n room v failed fault) (to_z-of_z w64 c.args.number (omega (arith, ints)))
-    (rows_refuse _ room v.trees v.is_broken failed fault (c.in_err-check_store-in-Some-Some.ensures.refused room v.trees same)))
+    (subst (λ (n : ℤ). StoreIsRefused n room v failed fault) (to_z-of_z w64 c.args.number (omega (arith, ints)))
+    (rows_refuse _ room v.trees v.is_broken failed fault
+    (c.in_err-check_store-in-Some-Some.ensures.refused room v.trees same)))
 
 pub returns-in_err-slots-clause-others : goal.returns-in_err-slots-clause-others
 returns-in_err-slots-clause-others g c = λ wanted other clean.
@@ -31,56 +36,74 @@ returns-in_err-slots-clause-others g c = λ wanted other clean.
     let failed = MoreFaults (g.S.Store.faults c.args.tables.now.trees) (g.S.Store.faults c.read.new.tables.trees) in
     let p = err_from_is_err_and c.from_residual.result c.from_residual.ensures.1 in
     rw (p.1, p.2)
-    (inr (other_unread c.args.number wanted Store (v.trees 3) v.is_broken failed c.in_err-slots.field-0.0 other (c.in_err-slots.ensures.refused clean)))
+    (inr (other_unread c.args.number wanted Store (v.trees 3) v.is_broken failed c.in_err-slots.field-0.0 other
+    (c.in_err-slots.ensures.refused clean)))
 
 pub returns-in_err-check_store-in-Some-Some-clause-others : goal.returns-in_err-check_store-in-Some-Some-clause-others
 returns-in_err-check_store-in-Some-Some-clause-others g c = λ wanted other clean.
     let v = g.S.Store.view c.args.tables.now.trees in
     let slots = c.in_ok-slots.slots.items in
-    let number : c.args.number ≡ to_z w64 (of_z w64 c.args.number) = sym (to_z-of_z w64 c.args.number (omega (arith, ints))) in
+    let number : c.args.number ≡ to_z w64 (of_z w64 c.args.number) =
+    sym (to_z-of_z w64 c.args.number (omega (arith, ints))) in
     let row = c.in-Some-Some.row in
     let is =
-    read_some slots c.deref.result.now 0 c.get.result c.in-Some-Some.field-0 c.deref.ensures.value c.get.ensures.lookup c.in-Some-Some.is
+    read_some slots c.deref.result.now 0 c.get.result c.in-Some-Some.field-0 c.deref.ensures.value c.get.ensures.lookup
+    c.in-Some-Some.is
     ∙ c.in-Some-Some.field-0-is in
-    let same = c.in_ok-slots.ensures.rows clean ∙ ap (rows_from 1) (one_slot slots row c.in_ok-slots.ensures.count is) in
+    let same = c.in_ok-slots.ensures.rows clean ∙ ap (rows_from 1) (one_slot slots row c.in_ok-slots.ensures.few is) in
     let here =
-    subst (λ (n : ℤ). IsOther n (rows_from 1 (Some row ∷ [])) wanted) number (subst (λ (rows : List Row). IsOther c.args.number rows wanted) same other) in
+    subst (λ (n : ℤ). IsOther n (rows_from 1 (Some row ∷ [])) wanted) number
+    (subst (λ (rows : List Row). IsOther c.args.number rows wanted) same other) in
     let told = c.in_err-check_store-in-Some-Some.ensures.others wanted here in
     let fault : c.in_err-check_store-in-Some-Some.field-0.0 ≡ wanted = cc in
-    let p = err_from_is_err_and c.from_residual-in_err-check_store-in-Some-Some.result c.from_residual-in_err-check_store-in-Some-Some.ensures.1 in
+    let p =
+    err_from_is_err_and c.from_residual-in_err-check_store-in-Some-Some.result
+    c.from_residual-in_err-check_store-in-Some-Some.ensures.1 in
     rw (p.1, p.2) (inl fault)
 
 pub returns-in-Some-Some-clause-others : goal.returns-in-Some-Some-clause-others
 returns-in-Some-Some-clause-others g c = λ wanted other clean.
     let v = g.S.Store.view c.args.tables.now.trees in
     let slots = c.in_ok-slots.slots.items in
-    let number : c.args.number ≡ to_z w64 (of_z w64 c.args.number) = sym (to_z-of_z w64 c.args.number (omega (arith, ints))) in
+    let number : c.args.number ≡ to_z w64 (of_z w64 c.args.number) =
+    sym (to_z-of_z w64 c.args.number (omega (arith, ints))) in
     let row = c.in-Some-Some.row in
     let is =
-    read_some slots c.deref.result.now 0 c.get.result c.in-Some-Some.field-0 c.deref.ensures.value c.get.ensures.lookup c.in-Some-Some.is
+    read_some slots c.deref.result.now 0 c.get.result c.in-Some-Some.field-0 c.deref.ensures.value c.get.ensures.lookup
+    c.in-Some-Some.is
     ∙ c.in-Some-Some.field-0-is in
-    let same = c.in_ok-slots.ensures.rows clean ∙ ap (rows_from 1) (one_slot slots row c.in_ok-slots.ensures.count is) in
+    let same = c.in_ok-slots.ensures.rows clean ∙ ap (rows_from 1) (one_slot slots row c.in_ok-slots.ensures.few is) in
     absurd (not_other c.args.number wanted (v.trees 3)
-    (same ∙ ap (λ (r : Row). rows_from 1 (Some r ∷ [])) (c.in_ok-check_store-in-Some-Some.ensures.store ∙ ap (λ (n : ℤ). store_cells n) (sym number))) other)
+    (same
+    ∙ ap (λ (r : Row). rows_from 1 (Some r ∷ []))
+    (c.in_ok-check_store-in-Some-Some.ensures.store ∙ ap (λ (n : ℤ). store_cells n) (sym number))) other)
 
 pub returns-in_err-check_empty-in-Some-None-clause-others : goal.returns-in_err-check_empty-in-Some-None-clause-others
 returns-in_err-check_empty-in-Some-None-clause-others g c = λ wanted other clean.
     let v = g.S.Store.view c.args.tables.now.trees in
     let slots = c.in_ok-slots.slots.items in
     let free =
-    read_some slots c.deref.result.now 0 c.get.result c.in-Some-None.field-0 c.deref.ensures.value c.get.ensures.lookup c.in-Some-None.is
+    read_some slots c.deref.result.now 0 c.get.result c.in-Some-None.field-0 c.deref.ensures.value c.get.ensures.lookup
+    c.in-Some-None.is
     ∙ c.in-Some-None.field-0-is in
-    let before = clean_before g.S.Store.view g.S.Store.faults g.S.Store.recovers g.S.Store.is_shielded c.read.new.tables.trees
+    let before = clean_before g.S.Store.view g.S.Store.faults g.S.Store.recovers g.S.Store.is_shielded
+    c.read.new.tables.trees
     c.check_empty.new.tables.trees c.check_empty.new.tables.trees c.check_empty.ensures.quiet clean in
-    absurd (not_unsaid c.args.number wanted (v.trees 3) (c.in_ok-slots.ensures.rows before ∙ free_slot slots c.in_ok-slots.ensures.count free) other)
+    absurd
+    (not_unsaid c.args.number wanted (v.trees 3)
+    (c.in_ok-slots.ensures.rows before ∙ free_slot slots c.in_ok-slots.ensures.few free) other)
 
 pub returns-in-Some-None-clause-others : goal.returns-in-Some-None-clause-others
 returns-in-Some-None-clause-others g c = λ wanted other clean.
     let v = g.S.Store.view c.args.tables.now.trees in
     let slots = c.in_ok-slots.slots.items in
     let free =
-    read_some slots c.deref.result.now 0 c.get.result c.in-Some-None.field-0 c.deref.ensures.value c.get.ensures.lookup c.in-Some-None.is
+    read_some slots c.deref.result.now 0 c.get.result c.in-Some-None.field-0 c.deref.ensures.value c.get.ensures.lookup
+    c.in-Some-None.is
     ∙ c.in-Some-None.field-0-is in
-    let before = clean_before g.S.Store.view g.S.Store.faults g.S.Store.recovers g.S.Store.is_shielded c.read.new.tables.trees
+    let before = clean_before g.S.Store.view g.S.Store.faults g.S.Store.recovers g.S.Store.is_shielded
+    c.read.new.tables.trees
     c.check_empty.new.tables.trees c.check_empty.new.tables.trees c.check_empty.ensures.quiet clean in
-    absurd (not_unsaid c.args.number wanted (v.trees 3) (c.in_ok-slots.ensures.rows before ∙ free_slot slots c.in_ok-slots.ensures.count free) other)
+    absurd
+    (not_unsaid c.args.number wanted (v.trees 3)
+    (c.in_ok-slots.ensures.rows before ∙ free_slot slots c.in_ok-slots.ensures.few free) other)

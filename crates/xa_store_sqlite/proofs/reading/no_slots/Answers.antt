@@ -1,7 +1,7 @@
-use Rattle.xa_base.proofs.{Err, ap, none_of, subst, sym, ◌∙◌, ℕ}
+use Rattle.xa_base.proofs.{Err, ap, arith, none_of, subst, sym, ◌∙◌, ℕ}
 use Rattle.sqlite_disk.specs.Disk.{MoreFaults}
 use Rattle.xa_slots.specs.{HasNoSlots, rows_from}
-use Rattle.xa_store_sqlite.specs.{IsNotBareFor, number_of}
+use Rattle.xa_store_sqlite.specs.{IsNotBareFor, table_number}
 use Rattle.xa_store_sqlite.proofs.Changes.{clean_before}
 use Rattle.xa_store_sqlite.proofs.Laid.{laid_on, table_laid}
 use Rattle.xa_store_sqlite.proofs.Refused.{not_bare_for}
@@ -17,19 +17,22 @@ read-requires g c = record {
 pub returns-in-Ok-clause-bare : goal.returns-in-Ok-clause-bare
 returns-in-Ok-clause-bare g c = λ clean.
     let v = g.S.Store.view c.args.tables.now.trees in
-    ap (λ n. v.trees n) (sym c.number.ensures) ∙ c.in-Ok.ensures.rows clean ∙ ap (rows_from 1) (none_of c.in-Ok.slots.items c.in-Ok.ensures.count)
+    ap (λ n. v.trees n) (sym c.number.ensures) ∙ c.in-Ok.ensures.rows clean
+    ∙ ap (rows_from 1) (none_of c.in-Ok.slots.items (let few = c.in-Ok.ensures.few in omega (arith, few)))
 
 pub returns-in-Ok-clause-laid : goal.returns-in-Ok-clause-laid
 returns-in-Ok-clause-laid g c =
     let view = g.S.Store.view in
     let old = c.args.tables.now.trees in
     let new = c.read.new.self.trees in
-    laid_on (view old) (view new) (clean_before view g.S.Store.faults g.S.Store.recovers g.S.Store.is_shielded old new new c.read.ensures.quiet) c.in-Ok.ensures.only c.requires
+    laid_on (view old) (view new)
+    (clean_before view g.S.Store.faults g.S.Store.recovers g.S.Store.is_shielded old new new c.read.ensures.quiet)
+    c.in-Ok.ensures.only c.requires
 
 pub returns-in-Err-clause-refused : goal.returns-in-Err-clause-refused
 returns-in-Err-clause-refused g c = λ below clean.
     let v = g.S.Store.view c.args.tables.now.trees in
     let failed = MoreFaults (g.S.Store.faults c.args.tables.now.trees) (g.S.Store.faults c.read.new.self.trees) in
     subst (IsNotBareFor v.trees v.is_broken failed) (sym c.not_bare.ensures)
-    (not_bare_for v (number_of c.args.table) failed c.in-Err.fault below (c.in-Err.ensures.cause clean)
+    (not_bare_for v (table_number c.args.table) failed c.in-Err.fault below (c.in-Err.ensures.cause clean)
     (λ is. subst (λ (n : ℕ). HasNoSlots 0 (v.trees n)) c.number.ensures (c.in-Err.ensures.refused (ap Err is) clean)))

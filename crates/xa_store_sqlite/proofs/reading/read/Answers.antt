@@ -1,7 +1,7 @@
 use Rattle.xa_base.proofs.{Err, ap, subst, sym, ◌∙◌, ℕ}
 use Rattle.sqlite_disk.specs.Disk.{MoreFaults}
 use Rattle.xa_slots.specs.{HasNoSlots}
-use Rattle.xa_store_sqlite.specs.{IsUnreadFor, number_of}
+use Rattle.xa_store_sqlite.specs.{IsUnreadFor, table_number}
 use Rattle.xa_store_sqlite.proofs.Changes.{clean_before}
 use Rattle.xa_store_sqlite.proofs.Laid.{laid_on, table_laid}
 use Rattle.xa_store_sqlite.proofs.Refused.{unread_for}
@@ -24,13 +24,16 @@ returns-in-Ok-clause-laid g c =
     let view = g.S.Store.view in
     let old = c.args.tables.now.trees in
     let new = c.read.new.self.trees in
-    laid_on (view old) (view new) (clean_before view g.S.Store.faults g.S.Store.recovers g.S.Store.is_shielded old new new c.read.ensures.quiet) c.in-Ok.ensures.only c.requires
+    laid_on (view old) (view new)
+    (clean_before view g.S.Store.faults g.S.Store.recovers g.S.Store.is_shielded old new new c.read.ensures.quiet)
+    c.in-Ok.ensures.only c.requires
 
 pub returns-in-Err-clause-refused : goal.returns-in-Err-clause-refused
 returns-in-Err-clause-refused g c = λ clean.
     let v = g.S.Store.view c.args.tables.now.trees in
     let table = c.args.table in
     let failed = MoreFaults (g.S.Store.faults c.args.tables.now.trees) (g.S.Store.faults c.read.new.self.trees) in
-    subst (IsUnreadFor table c.args.count (v.trees (number_of table)) v.is_broken failed) (sym c.unread.ensures)
+    subst (IsUnreadFor table c.args.count (v.trees (table_number table)) v.is_broken failed) (sym c.unread.ensures)
     (unread_for v table c.args.count failed c.in-Err.fault (c.in-Err.ensures.cause clean)
-    (λ is. subst (λ (n : ℕ). HasNoSlots c.args.count (v.trees n)) c.number.ensures (c.in-Err.ensures.refused (ap Err is) clean)))
+    (λ is. subst (λ (n : ℕ). HasNoSlots c.args.count (v.trees n)) c.number.ensures
+    (c.in-Err.ensures.refused (ap Err is) clean)))

@@ -2,9 +2,9 @@ use Rattle.xa_base.proofs.{◌∙◌, ap, sym, IfErr-weaker, err_from_is_err_and
 use Rattle.sqlite_disk.specs.Disk.{MoreFaults}
 use Rattle.xa_base.specs.declared.limits.TheConstants.{MOST_KEYS}
 use Rattle.xa_slots.specs.{rows_from}
-use Rattle.xa_store_sqlite.specs.declared.fault.OpenFault.{OpenFault}
+use Rattle.xa_store_sqlite.specs.declared.fault.StoreOpenFault.{StoreOpenFault}
 use Rattle.xa_store_sqlite.specs.declared.fault.Table.TheVariants.{Accounts}
-use Rattle.xa_store_sqlite.specs.{IsRefused, IsRefusedForRows}
+use Rattle.xa_store_sqlite.specs.{StoreIsRefused, IsRefusedForRows}
 use Rattle.xa_store_sqlite.proofs.Refused.{rows_refuse, unread_refuse}
 use Rattle.xa_store_sqlite.proofs.reading.read_accounts.Goals as goal
 
@@ -13,12 +13,15 @@ returns-in_err-slots-clause-refused g c = λ number room clean.
     let v = g.S.Store.view c.args.tables.now.trees in
     let failed = MoreFaults (g.S.Store.faults c.args.tables.now.trees) (g.S.Store.faults c.read.new.tables.trees) in
     let p = err_from_is_err_and c.from_residual.result c.from_residual.ensures.1 in
-    rw (p.1, p.2) (unread_refuse number room v.trees v.is_broken Accounts MOST_KEYS failed _ (λ none. none) (c.in_err-slots.ensures.refused clean))
+    rw (p.1, p.2)
+    (unread_refuse number room v.trees v.is_broken Accounts MOST_KEYS failed _ (λ none. none)
+    (c.in_err-slots.ensures.refused clean))
 
 pub returns-clause-refused : goal.returns-clause-refused
 returns-clause-refused g c = λ number room clean.
     let v = g.S.Store.view c.args.tables.now.trees in
     let failed = MoreFaults (g.S.Store.faults c.args.tables.now.trees) (g.S.Store.faults c.read.new.tables.trees) in
-    IfErr-weaker c.accounts_of.result (IsRefusedForRows number room v.trees) (IsRefused number room v failed)
-    (λ (f : OpenFault). rows_refuse number room v.trees v.is_broken failed f)
-    (c.accounts_of.ensures.refused number room v.trees (c.in_ok-slots.ensures.rows clean ∙ ap (rows_from 1) (sym c.deref.ensures.value)))
+    IfErr-weaker c.accounts_of.result (IsRefusedForRows number room v.trees) (StoreIsRefused number room v failed)
+    (λ (f : StoreOpenFault). rows_refuse number room v.trees v.is_broken failed f)
+    (c.accounts_of.ensures.refused number room v.trees
+    (c.in_ok-slots.ensures.rows clean ∙ ap (rows_from 1) (sym c.deref.ensures.value)))

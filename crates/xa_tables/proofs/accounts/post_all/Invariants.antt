@@ -5,4 +5,5 @@ use Rattle.xa_tables.proofs.accounts.post_all.Given as goal
 
 abbrev pub invariant-loop-place : goal.invariant-loop-place
 invariant-loop-place l =
-    (IsChanging (posted_by l.xid) l.held l.initial.accounts l.accounts l.place-index) × (list_any (λ a. is_broken_by a l.xid) l.accounts ≡ false)
+    (IsChanging (posted_by l.xid) l.held l.initial.accounts l.accounts l.place-index)
+    × (list_any (λ a. is_broken_by a l.xid) l.accounts ≡ false)

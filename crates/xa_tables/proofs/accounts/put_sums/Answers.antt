@@ -4,6 +4,10 @@ use Rattle.xa_tables.proofs.PlaceLemmas.{held_within}
 use Rattle.xa_tables.proofs.HeldSums.{sums_more}
 use Rattle.xa_tables.proofs.accounts.put_sums.Goals as goal
 
+pub bounds-accounts-place : goal.bounds-accounts-place
+bounds-accounts-place c =
+    held_within c.args.held.now c.args.accounts.now c.requires.held c.loop-place.place-index c.loop-place-test.true
+
 pub loop-place-preserved : goal.loop-place-preserved
 loop-place-preserved c =
     let accounts = c.args.accounts.now in

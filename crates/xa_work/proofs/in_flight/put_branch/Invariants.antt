@@ -7,7 +7,9 @@ use Rattle.xa_work.proofs.in_flight.put_branch.Given as goal
 abbrev pub invariant-loop-change : goal.invariant-loop-change
 invariant-loop-change g l = record {
   leaves : Leaves g.I.Idle.leads l.fn.desk l.desk l.fn.idle l.idle;
-  puts : Adds (at_of l.branch.m (begun_of (take l.change-index l.changes) l.branch)) l.fn.flights.items l.flights.items l.fn.desk l.desk;
+  puts : Adds (at_of l.branch.m (begun_of (take l.change-index l.changes) l.branch)) l.fn.flights.items l.flights.items
+      l.fn.desk l.desk;
   room : vec_capacity l.flights ≡ vec_capacity l.fn.flights;
-  left : length l.flights.items + length (changes_at (drop l.change-index l.changes) l.branch.m) + 1 ≤ vec_capacity l.flights;
+  left : length l.flights.items + length (changes_at (drop l.change-index l.changes) l.branch.m) + 1 ≤ vec_capacity
+      l.flights;
 }

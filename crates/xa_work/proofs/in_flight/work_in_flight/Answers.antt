@@ -1,6 +1,7 @@
 use Rattle.xa_base.proofs.{length, ap, arith, length-append, ◌∙◌, take_all}
 use Rattle.xa_work.specs.{requests_at}
-use Rattle.xa_work.proofs.Making.{first_requests, puts_append, puts_length, puts_none, requests_left, leaves_none, leaves_on}
+use Rattle.xa_work.proofs.Making.{first_requests, puts_append, puts_length, puts_none, requests_left, leaves_none}
+use Rattle.xa_work.proofs.Making.{leaves_on}
 use Rattle.xa_work.proofs.in_flight.work_in_flight.Goals as goal
 
 pub loop-branch-init : goal.loop-branch-init
@@ -19,11 +20,17 @@ loop-branch-preserved g c =
     let (more, grown, puts) = c.put_branch.ensures.puts in
     let items = ap length grown ∙ length-append c.loop-branch.flights.items more in
     let many = puts_length (requests_at cs b) more _ _ puts in
-    let left = requests_left cs c.args.branches.now c.loop-branch.branch-index b c.loop-branch-test.true c.branch-item.is in
+    let left =
+    requests_left cs c.args.branches.now c.loop-branch.branch-index b c.loop-branch-test.true c.branch-item.is in
     record {
-      leaves = leaves_on c.idles_go_on.ensures.further so_far.leaves c.put_branch.ensures.goes_on c.put_branch.ensures.kept c.put_branch.ensures.idled;
+      leaves = leaves_on c.idles_go_on.ensures.further so_far.leaves c.put_branch.ensures.goes_on
+          c.put_branch.ensures.kept c.put_branch.ensures.idled;
       puts =
-          rw (first_requests cs c.args.branches.now c.loop-branch.branch-index b c.loop-branch-test.true c.branch-item.is, grown)
+          rw (
+            first_requests cs c.args.branches.now c.loop-branch.branch-index b c.loop-branch-test.true
+                c.branch-item.is,
+            grown,
+          )
           (puts_append _ (requests_at cs b) c.loop-branch.flights.items more _ _ _ so_far.puts puts);
       room = omega (arith, items, many, left, so_far.room, c.put_branch.ensures.room);
     }
@@ -34,6 +41,13 @@ returns-clause-tries g c =
     record {
       begun = c.loop-branch.desk;
       flights = c.loop-branch.flights.items;
-      puts = search (arith, take_all, c.loop-branch.flights.items, c.args.desk.now, c.loop-branch.branch-index, c.args.branches.now);
+      puts = search (
+        arith,
+        take_all,
+        c.loop-branch.flights.items,
+        c.args.desk.now,
+        c.loop-branch.branch-index,
+        c.args.branches.now,
+      );
       collects = rw c.deref.ensures.value at c.collect_all.ensures.collects;
     }

@@ -13,9 +13,11 @@ loop-branch-preserved g c =
     let cs = c.args.changes.now in
     let all_ : c.work_on.result ≡ true = cc in
     record {
-      leaves = leaves_on c.idles_go_on.ensures.further c.loop-branch.invariant.leaves c.work_on.ensures.goes_on c.work_on.ensures.kept c.work_on.ensures.idled;
+      leaves = leaves_on c.idles_go_on.ensures.further c.loop-branch.invariant.leaves c.work_on.ensures.goes_on
+          c.work_on.ensures.kept c.work_on.ensures.idled;
       calls =
-          chain_more (λ b d e. CallsBranch cs b true d e) c.args.branches.now _ c.branch-item.result _ _ _ c.loop-branch-test.true c.branch-item.is
+          chain_more (λ b d e. CallsBranch cs b true d e) c.args.branches.now _ c.branch-item.result _ _ _
+          c.loop-branch-test.true c.branch-item.is
           c.loop-branch.invariant.calls (rw all_ at c.work_on.ensures.calls);
     }
 
@@ -25,7 +27,8 @@ returns-then-not-work_on-clause-calls g c =
     let i = c.loop-branch.branch-index in
     let b = c.branch-item.result in
     let not_all : c.work_on.result ≡ false = cc in
-    stopped (take i bs) (drop (i + 1) bs) b c.loop-branch.desk refl (parted_at bs i b c.loop-branch-test.true c.branch-item.is) c.loop-branch.invariant.calls
+    stopped (take i bs) (drop (i + 1) bs) b c.loop-branch.desk refl
+    (parted_at bs i b c.loop-branch-test.true c.branch-item.is) c.loop-branch.invariant.calls
     (rw not_all at c.work_on.ensures.calls)
 
 pub returns-clause-calls : goal.returns-clause-calls

@@ -10,7 +10,9 @@ loop-before-init g c = search (arith, opens_none, have_none, leaves_none, c.idle
 
 pub loop-before-preserved : goal.loop-before-preserved
 loop-before-preserved g c = record {
-  leaves = leaves_on c.idles_go_on.ensures.further c.loop-before.invariant.leaves c.open_one-all.ensures.goes_on c.open_one-all.ensures.kept c.open_one-all.ensures.idled;
+  leaves = leaves_on c.idles_go_on.ensures.further c.loop-before.invariant.leaves c.open_one-all.ensures.goes_on
+      c.open_one-all.ensures.kept c.open_one-all.ensures.idled;
   opens = opens_more _ _ c.open_one-all.result _ _ _ c.loop-before.invariant.opens c.open_one-all.ensures.calls;
-  sent = have_on _ _ _ c.loop-before.invariant.sent (op_sent IsOpenRm (c.loop-before.before + 1) OpenRm c.open_one-all.result _ _ refl c.open_one-all.ensures.calls);
+  sent = have_on _ _ _ c.loop-before.invariant.sent
+      (op_sent IsOpenRm (c.loop-before.before + 1) OpenRm c.open_one-all.result _ _ refl c.open_one-all.ensures.calls);
 }

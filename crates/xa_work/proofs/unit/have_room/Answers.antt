@@ -10,7 +10,9 @@ loop-branch-preserved c =
     let i = c.loop-branch.branch-index in
     let b = c.branch-item.result in
     let fits : steps_in c.args.changes.now b.m + AFTERWARDS ≤ room_at c.args.desk.now.ledgers b.m = omega arith in
-    rw (one_more bs i b c.loop-branch-test.true c.branch-item.is) (All-push (λ (d : Branch). steps_in c.args.changes.now d.m + AFTERWARDS ≤ room_at c.args.desk.now.ledgers d.m) (take i bs) b c.loop-branch.invariant fits)
+    rw (one_more bs i b c.loop-branch-test.true c.branch-item.is)
+    (All-push (λ (d : Branch). steps_in c.args.changes.now d.m + AFTERWARDS ≤ room_at c.args.desk.now.ledgers d.m)
+    (take i bs) b c.loop-branch.invariant fits)
 
 pub returns : goal.returns
 returns c = grind (arith, take_all)

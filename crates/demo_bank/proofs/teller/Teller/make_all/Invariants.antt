@@ -16,7 +16,10 @@ invariant-loop-place g l = record {
   knows : g.L.DecisionRecords.knows l.self.log;
   each : length l.self.outcomes.items ≡ length l.fn.self.outcomes.items + l.place;
   made : (more : List WorkOutcome)
-      × (l.self.outcomes.items ≡ l.fn.self.outcomes.items ++ more) × (length more ≡ l.place) × (list_any is_last more ≡ false)
-      × MakesEach l.fn.desk.thread l.fn.self.habits l.fn.self.habits.first (take l.place l.fn.self.transfers.items) more l.initial.desk l.desk (g.L.DecisionLog.state l.fn.self.log)
-      (g.L.DecisionLog.state l.self.log) (IsReadAs g.L.DecisionLog.state g.L.DecisionRecords.knows g.L.DecisionLog.loses l.self.log);
+      × (l.self.outcomes.items ≡ l.fn.self.outcomes.items ++ more) × (length more ≡ l.place)
+      × (list_any is_last more ≡ false)
+      × MakesEach l.fn.desk.thread l.fn.self.habits l.fn.self.habits.first (take l.place l.fn.self.transfers.items) more
+      l.initial.desk l.desk (g.L.DecisionLog.state l.fn.self.log)
+      (g.L.DecisionLog.state l.self.log)
+      (IsReadAs g.L.DecisionLog.state g.L.DecisionRecords.knows g.L.DecisionLog.loses l.self.log);
 }

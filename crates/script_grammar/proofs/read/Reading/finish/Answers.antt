@@ -18,13 +18,17 @@ returns-in_err-read_line-clause-reads c =
     let fault = c.in_err-read_line.field-0.0 in
     let fails : FailsAt r.number fault (after_line r.threads_mode r.script r.number r.line.items) =
     rw c.deref.ensures.value at c.in_err-read_line.ensures.err in
-    rw (p.1, p.2) (ends_in_fault r.threads_mode fault r.script r.number r.line.items r.no_end (some_byte _ _ r.line.ok.0 (sym c.if-is_empty.ensures)) fails)
+    rw (p.1, p.2)
+    (ends_in_fault r.threads_mode fault r.script r.number r.line.items r.no_end
+    (some_byte _ _ r.line.ok.0 (sym c.if-is_empty.ensures)) fails)
 
 pub returns-clause-reads : goal.returns-clause-reads
 returns-clause-reads c =
     let r = c.args.self in
-    let taken : after_line r.threads_mode r.script r.number r.line.items ≡ Ok c.read_line.new.script = search (arith, r.threads_mode, r.script) in
-    ends r.threads_mode r.script c.read_line.new.script r.number r.line.items r.no_end (some_byte _ _ r.line.ok.0 (sym c.if-is_empty.ensures)) taken
+    let taken : after_line r.threads_mode r.script r.number r.line.items ≡ Ok c.read_line.new.script =
+    search (arith, r.threads_mode, r.script) in
+    ends r.threads_mode r.script c.read_line.new.script r.number r.line.items r.no_end
+    (some_byte _ _ r.line.ok.0 (sym c.if-is_empty.ensures)) taken
 
 pub returns-clause-one : goal.returns-clause-one
 returns-clause-one c = search (arith, after_one)

@@ -6,4 +6,5 @@ use Rattle.test_driver.proofs.driver.dying.decide.Goals as goal
 
 pub returns-clause-decides : goal.returns-clause-decides
 returns-clause-decides g c =
-    after_only (λ op. is_heur op ≡ true) (Heur c.args.xid c.args.commits) refl _ _ 2 _ c.call.ensures.collected c.call.ensures.unchanged
+    after_only (λ op. is_heur op ≡ true) (Heur c.args.xid c.args.commits) refl _ _ 2 _ c.call.ensures.collected
+    c.call.ensures.unchanged

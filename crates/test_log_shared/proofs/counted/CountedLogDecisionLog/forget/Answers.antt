@@ -6,6 +6,7 @@ use Rattle.test_log_shared.proofs.counted.CountedLogDecisionLog.forget.Goals as 
 pub returns-clause-forgotten : goal.returns-clause-forgotten
 returns-clause-forgotten c =
     let removed =
-    one_removed tran_eq tran_cmp_total tran_cmp-IsAntisymmetric tran_eq-by_cmp c.args.self.now.records.entries c.remove.new.self.entries c.args.tran.now
+    one_removed tran_eq tran_cmp_total tran_cmp-IsAntisymmetric tran_eq-by_cmp c.args.self.now.records.entries
+    c.remove.new.self.entries c.args.tran.now
     c.remove.ensures.updates.0 in
     λ i. record { records = removed i; failures = c.args.self.now.failures }

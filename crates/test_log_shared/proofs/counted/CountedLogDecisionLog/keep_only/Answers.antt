@@ -8,6 +8,10 @@ pub returns-clause-kept : goal.returns-clause-kept
 returns-clause-kept c =
     let old = c.args.self.now.records.entries in
     let new = c.retain.new.self.entries in
-    let kept = retained_keys _ (is_among c.args.trans.now) _ (λ k v b w f call. search rules) old new c.retain.ensures.filtered in
-    let made = kept_by_key tran_eq tran_cmp_total tran_cmp-IsAntisymmetric tran_eq-by_cmp tran_alike (is_among c.args.trans.now) old new kept in
+    let kept =
+    retained_keys _ (is_among c.args.trans.now) _ (λ k v b w f call. search rules) old new
+    c.retain.ensures.filtered in
+    let made =
+    kept_by_key tran_eq tran_cmp_total tran_cmp-IsAntisymmetric tran_eq-by_cmp tran_alike
+    (is_among c.args.trans.now) old new kept in
     λ i. record { records = made i; failures = c.args.self.now.failures }

@@ -6,4 +6,6 @@ use Rattle.test_log_shared.proofs.counted.CountedLogDecisionRecords.has.Goals as
 pub returns : goal.returns
 returns c =
     c.copied.ensures ∙ c.get.ensures.value
-    ∙ sym (get-lookup tran_eq tran_cmp_total tran_cmp-IsAntisymmetric tran_eq-by_cmp c.args.self.now.records.entries c.args.tran.now)
+    ∙ sym
+    (get-lookup tran_eq tran_cmp_total tran_cmp-IsAntisymmetric tran_eq-by_cmp c.args.self.now.records.entries
+    c.args.tran.now)

@@ -7,7 +7,8 @@ pub returns-then-put_all-clause-appended : goal.returns-then-put_all-clause-appe
 returns-then-put_all-clause-appended c =
     let self = c.args.self.now in
     let put = c.put_all.ensures c.if-put_all.true in (
-      (λ i. record { records = put i; failures = self.failures }) ∙ sym (put_with (client_state self.records self.failures) c.args.decisions.now),
+      (λ i. record { records = put i; failures = self.failures })
+          ∙ sym (put_with (client_state self.records self.failures) c.args.decisions.now),
       c.requires.known,
       tt,
     )

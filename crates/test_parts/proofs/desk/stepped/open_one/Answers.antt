@@ -11,8 +11,12 @@ only_sender : (lane : LaneName) (line : QueueId) (capacity : ℕ) (rest : List (
     → rest ++ x ∷ [] ≡ new_senders lane line capacity 1
     → (x.index ≡ 0) × (x.lane ≡ lane) × (x.sent ≡ [])
 only_sender lane line capacity [] x e =
-    let is : x ≡ new_sender lane line capacity 0 = cc in
-    (ap (λ (s : Sending Request). s.index) is, ap (λ (s : Sending Request). s.lane) is, ap (λ (s : Sending Request). s.sent) is)
+    let is : x ≡ new_sender lane line capacity 0 = cc in (
+      ap (λ (s : Sending Request). s.index) is,
+      ap (λ (s : Sending Request). s.lane) is,
+      ap
+          (λ (s : Sending Request). s.sent) is,
+    )
 only_sender lane line capacity (y ∷ []) x e = absurd (cc)
 only_sender lane line capacity (y ∷ (z ∷ ys)) x e = absurd (cc)
 
@@ -21,7 +25,8 @@ returns-clause-end g c =
     let popped = rw c.expect-sender.ensures at c.pop.ensures.items in
     let senders = rw c.expect-senders.ensures at c.open_lane.ensures.senders in
     let only =
-    only_sender (name_of c.args.manager) c.expect-senders.result.1.line c.args.capacity c.pop.new.self.items c.expect-sender.result (sym popped ∙ senders) in
+    only_sender (name_of c.args.manager) c.expect-senders.result.1.line c.args.capacity c.pop.new.self.items
+    c.expect-sender.result (sym popped ∙ senders) in
     record {
       sender = ap (λ n. n + 1) only.0;
       opening_ = ap (λ (l : LaneName). l.opening) only.1;
@@ -32,4 +37,5 @@ pub returns-clause-new : goal.returns-clause-new
 returns-clause-new g c =
     let popped = rw c.expect-sender.ensures at c.pop.ensures.items in
     let senders = rw c.expect-senders.ensures at c.open_lane.ensures.senders in
-    (only_sender (name_of c.args.manager) c.expect-senders.result.1.line c.args.capacity c.pop.new.self.items c.expect-sender.result (sym popped ∙ senders)).2
+    (only_sender (name_of c.args.manager) c.expect-senders.result.1.line c.args.capacity c.pop.new.self.items
+    c.expect-sender.result (sym popped ∙ senders)).2

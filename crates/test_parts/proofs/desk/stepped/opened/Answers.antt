@@ -8,7 +8,8 @@ assemble-requires-clause-ends g c =
     let completions = c.open_completions-workers.ensures in
     rw made (record {
       number = c.open_requests-senders.ensures.number;
-      to = subst (λ o. AreEndsTo 1 o c.open_requests-senders.result.0.items) (sym completions.named.0) c.open_requests-senders.ensures.ends;
+      to = subst (λ o. AreEndsTo 1 o c.open_requests-senders.result.0.items) (sym completions.named.0)
+          c.open_requests-senders.ensures.ends;
       lane = completions.named.1;
       senders = completions.new.0;
     })

@@ -7,4 +7,5 @@ returns-in-Ok g c =
     let made = c.in-Ok.ensures.len in
     let ok = c.in-Ok.ended.ok in
     let ok' = c.args.handles.ok in
-    kept _ (λ e. e.line) (λ p. p.0.value.line) (λ p r k. k.1) _ c.args.handles.items c.in-Ok.ended.items (omega (arith, made, ok, ok')) (omega (arith, ok')) c.in-Ok.ensures.each
+    kept _ (λ e. e.line) (λ p. p.0.value.line) (λ p r k. k.1) _ c.args.handles.items c.in-Ok.ended.items
+    (omega (arith, made, ok, ok')) (omega (arith, ok')) c.in-Ok.ensures.each

@@ -11,5 +11,6 @@ returns-clause-opened g c = λ p limits opened. record {
   limits = limits;
   opened = rw c.client_jobs_of.ensures.desks opened;
   ready = c.client_jobs_of.ensures.ready;
-  room = rw (sym (length-map c.client_jobs_of.result.items _) ∙ ap length c.client_jobs_of.ensures.clients) c.requires.memory.room;
+  room = rw (sym (length-map c.client_jobs_of.result.items _) ∙ ap length c.client_jobs_of.ensures.clients)
+      c.requires.memory.room;
 }

@@ -7,4 +7,5 @@ pub returns-in-Some : goal.returns-in-Some
 returns-in-Some g c =
     let t = c.in-Some.ensures in
     let d = item_drawn _ _ _ c.in-Item.field-0 c.in-Item.completion c.in-Item.ensures.took t.drains in
-    rw (← c.self.view_is) (t.mid, Item c.in-Item.field-0 c.in-Item.completion, d.0, d.1, sym t.code_, t.rest.0, t.rest.1)
+    rw (← c.self.view_is)
+    (t.mid, Item c.in-Item.field-0 c.in-Item.completion, d.0, d.1, sym t.code_, t.rest.0, t.rest.1)

@@ -13,7 +13,10 @@ returns-in-Some c =
     rw (← c.self.view_is) (
       λ e. (
         rw named at (b.slot_out _ c.in-Some.slot there),
-        loose_from_handle at c.self.inside.slots _ c.in-Some.slot table (logged c.self.inside.drained.items) b there _ named (eqb-true c.in-Some.slot.handle 0 e),
+        loose_from_handle at c.self.inside.slots _ c.in-Some.slot table (logged c.self.inside.drained.items) b there _
+            named (eqb-true c.in-Some.slot.handle 0 e),
       ),
-      λ p. eq-eqb c.in-Some.slot.handle 0 (loose_handle at c.self.inside.slots _ c.in-Some.slot table (logged c.self.inside.drained.items) b there _ named p.1),
+      λ p. eq-eqb c.in-Some.slot.handle 0
+          (loose_handle at c.self.inside.slots _ c.in-Some.slot table (logged c.self.inside.drained.items) b there _
+          named p.1),
     )

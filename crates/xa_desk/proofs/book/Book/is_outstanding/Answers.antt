@@ -7,4 +7,6 @@ use Rattle.xa_desk.proofs.book.Book.is_outstanding.Goals as goal
 pub returns-clause-settled : goal.returns-clause-settled
 returns-clause-settled c = λ e m known.
     let none : slab_len c.self.inside.slots ≡ 0 = omega (arith, c.len.ensures, ltb-false 0 c.len.result e) in
-    rw (← c.self.view_is) (nothing_open c.self.inside.ledgers.items c.self.inside.slots c.self.inside.kept.items (logged c.self.inside.drained.items) c.self.invariant.books none m (rw (← c.self.view_is) at known))
+    rw (← c.self.view_is)
+    (nothing_open c.self.inside.ledgers.items c.self.inside.slots c.self.inside.kept.items
+    (logged c.self.inside.drained.items) c.self.invariant.books none m (rw (← c.self.view_is) at known))

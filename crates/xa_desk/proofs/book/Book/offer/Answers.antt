@@ -10,7 +10,9 @@ pub returns-in-Err-clause-full : goal.returns-in-Err-clause-full
 returns-in-Err-clause-full g c =
     let within = rw (← c.self.view_is) at (lane_within c.requires.known c.requires.lanes) in
     rw (← c.self.view_is) (ap (λ (rs : List (Sending Request)). record (desk_of c.self.inside) { requests = rs })
-    (ap (set c.self.inside.requests.items (c.args.manager - 1)) c.in-Err.ensures.full.1 ∙ at_place-set with_full (c.args.manager - 1) c.self.inside.requests.items c.index_mut.result.now within c.index_mut.ensures.value))
+    (ap (set c.self.inside.requests.items (c.args.manager - 1)) c.in-Err.ensures.full.1
+    ∙ at_place-set with_full (c.args.manager - 1) c.self.inside.requests.items c.index_mut.result.now within
+    c.index_mut.ensures.value))
 
 pub returns-in-Ok-clause-sent : goal.returns-in-Ok-clause-sent
 returns-in-Ok-clause-sent g c =
@@ -23,7 +25,9 @@ returns-in-Ok-clause-sent g c =
     rw (← c.self.view_is) (c.note_sent.ensures.sent
     ∙ ap (λ (rs : List (Sending Request)). record (desk_of c.self.inside) {
       ledgers = after_sent c.self.inside.ledgers.items c.args.manager c.args.op.now;
-      events = logged c.self.inside.events.items ++ Sent (next_operation c.self.inside.ledgers.items c.args.manager) ∷ [];
+      events = logged c.self.inside.events.items ++ Sent (next_operation c.self.inside.ledgers.items c.args.manager)
+          ∷ [];
       requests = rs;
     })
-    (ap (set requests (c.args.manager - 1)) one ∙ at_place-set (with_item request) (c.args.manager - 1) requests old within c.index_mut.ensures.value))
+    (ap (set requests (c.args.manager - 1)) one
+    ∙ at_place-set (with_item request) (c.args.manager - 1) requests old within c.index_mut.ensures.value))

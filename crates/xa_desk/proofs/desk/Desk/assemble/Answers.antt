@@ -6,8 +6,8 @@ use Rattle.xa_desk.proofs.desk.Desk.assemble.Goals as goal
 
 pub invariant_of-result : goal.invariant_of-result
 invariant_of-result c =
-    let none = ap (λ (d : DeskView). outstanding d.ledgers) c.assemble.ensures in
-    (omega (arith, none, nothing_out c.args.parts.plan c.args.parts.use_async), rw c.assemble.ensures (tied_new c.args.parts c.args.requests.items c.args.completions c.requires.ends c.requires.new))
-
-pub returns-clause-tied : goal.returns-clause-tied
-returns-clause-tied c = rw c.assemble.ensures (tied_new c.args.parts c.args.requests.items c.args.completions c.requires.ends c.requires.new)
+    let none = ap (λ (d : DeskView). outstanding d.ledgers) c.assemble.ensures in (
+      omega (arith, none, nothing_out c.args.parts.plan c.args.parts.use_async),
+      rw c.assemble.ensures
+          (tied_new c.args.parts c.args.requests.items c.args.completions c.requires.ends c.requires.new),
+    )

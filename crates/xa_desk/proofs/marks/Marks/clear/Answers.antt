@@ -15,6 +15,7 @@ returns c =
       cleared = ap (λ b. nat_eq b 1) (bit_at_clear_same w64 bits c.args.place c.requires);
       others = λ k apart. elim (cases_lt k 64) [
         | inl below ↦ ap (λ b. nat_eq b 1) (bit_at_clear_other w64 bits c.args.place c.requires k below apart)
-        | inr past ↦ ap (λ b. nat_eq b 1) (bit_at_above (bit_and bits mask) 64 k fewer past ∙ sym (bit_at_above bits 64 k fits past))
+        | inr past ↦ ap (λ b. nat_eq b 1)
+            (bit_at_above (bit_and bits mask) 64 k fewer past ∙ sym (bit_at_above bits 64 k fits past))
       ];
     }

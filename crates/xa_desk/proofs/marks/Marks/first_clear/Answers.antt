@@ -11,4 +11,5 @@ returns c =
       | inr past ↦ search (arith, nat_eq, c.requires)
     ] in
     let (_, zero, ones) = bit_at-trailing_ones w64 bits not_all in
-    rw c.trailing_ones.ensures (record { clear = ap (λ b. nat_eq b 1) zero; marked = λ k below. ap (λ b. nat_eq b 1) (ones k below) })
+    rw c.trailing_ones.ensures
+    (record { clear = ap (λ b. nat_eq b 1) zero; marked = λ k below. ap (λ b. nat_eq b 1) (ones k below) })

@@ -1,12 +1,12 @@
 use Rattle.xa_base.proofs.{◌≡◌, ◌≤◌, length, List}
-use Rattle.xa_driver.specs.{Ask, SameAsks, among_asks, IdlesAt, CollectsFirst, IsSent, IsUnderWay}
+use Rattle.xa_driver.specs.{Ask, SameAsks, among_asks, IdlesAt, CollectsFirst, AllAreSent, IsUnderWay}
 use Rattle.xa_driver.proofs.round.Round.collect_all.Given as goal
 
 abbrev pub invariant-loop-place : goal.invariant-loop-place
 invariant-loop-place g l = record {
   under_way : IsUnderWay l.self l.desk;
   reached : l._place ≤ l.self.collected;
-  all : IsSent l.self;
+  all : AllAreSent l.self;
   long : length l.self.asks.items ≡ length l.initial.self.asks.items;
   before : l.self.before ≡ l.initial.self.before;
   same : (js : List Ask) → SameAsks js l.initial.self.asks.items → SameAsks js l.self.asks.items;

@@ -9,12 +9,14 @@ passed-init g c = none_passed (SendsNothing c.args.desk.now) c.args.self.now c.a
 pub passed-preserved : goal.passed-preserved
 passed-preserved g c =
     let e = c.send_place.ensures in
-    (send_passes g.I.Idle.leads_by _ c.send_place.result _ c.passed.invariant refl (sym c.is_passed.ensures ∙ c.passed-test.true) e.sends e.waited e.under_way e.before e.same).0
+    (send_passes g.I.Idle.leads_by _ c.send_place.result _ c.passed.invariant refl
+    (sym c.is_passed.ensures ∙ c.passed-test.true) e.sends e.waited e.under_way e.before e.same).0
 
 pub passed-smaller : goal.passed-smaller
 passed-smaller g c =
     let e = c.send_place.ensures in
-    (send_passes g.I.Idle.leads_by c.send_place.new.idle c.send_place.result _ c.passed.invariant refl (sym c.is_passed.ensures ∙ c.passed-test.true) e.sends e.waited e.under_way e.before e.same).1
+    (send_passes g.I.Idle.leads_by c.send_place.new.idle c.send_place.result _ c.passed.invariant refl
+    (sym c.is_passed.ensures ∙ c.passed-test.true) e.sends e.waited e.under_way e.before e.same).1
 
 pub returns-clause-sends : goal.returns-clause-sends
 returns-clause-sends g c =

@@ -5,7 +5,8 @@ use Rattle.xa_driver.proofs.round.Round.send_next.Given as goal
 
 -- those so far were asked nothing, so nothing was sent
 abbrev pub invariant-passed : goal.invariant-passed
-invariant-passed g l = Passed (SendsNothing l.initial.desk) l.initial.self l.self l.initial.desk l.desk l.initial.idle l.idle
+invariant-passed g l =
+    Passed (SendsNothing l.initial.desk) l.initial.self l.self l.initial.desk l.desk l.initial.idle l.idle
 
 abbrev pub decreases-passed : goal.decreases-passed
 decreases-passed g l = length l.self.asks.items - sent_count l.self

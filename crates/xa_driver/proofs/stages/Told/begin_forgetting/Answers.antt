@@ -8,5 +8,9 @@ again-requires c =
     let r = c.args.self.round in
     let f : Ask → Ask = third_ask in
     let is =
-    lent f (λ k. refl) r.asks.len r.asks.items c.as_mut_slice.result.now c.third_round.new.asks _ r.asks.ok.0 c.third_round.ensures c.as_mut_slice.ensures.value in
-    record { rest = remade_rest f (λ k. refl) r _ is refl c.requires.rest; may = remade_may f (λ k. refl) r _ is c.args.desk.now c.requires.may }
+    lent f (λ k. refl) r.asks.len r.asks.items c.as_mut_slice.result.now c.third_round.new.asks _ r.asks.ok.0
+    c.third_round.ensures c.as_mut_slice.ensures.value in
+    record {
+      rest = remade_rest f (λ k. refl) r _ is refl c.requires.rest;
+      may = remade_may f (λ k. refl) r _ is c.args.desk.now c.requires.may;
+    }

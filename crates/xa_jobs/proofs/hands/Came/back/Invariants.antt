@@ -8,4 +8,6 @@ invariant-loop g l = Unit {0}
 
 -- the first have come back
 abbrev pub invariant-loop-one : goal.invariant-loop-one
-invariant-loop-one g l = Handled (IsBackAs g.J.Job.comes_to) l.fn.self.came.items l.yielded l.one-iterator l.back (vec_capacity l.fn.self.back)
+invariant-loop-one g l =
+    Handled (IsBackAs g.J.Job.comes_to) l.fn.self.came.items l.yielded l.one-iterator l.back
+    (vec_capacity l.fn.self.back)

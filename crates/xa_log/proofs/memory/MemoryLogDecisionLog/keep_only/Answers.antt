@@ -10,14 +10,14 @@ pub returns-clause-kept : goal.returns-clause-kept
 returns-clause-kept c =
     let old = c.self.inside.records.entries in
     let new = c.retain.new.self.entries in
-    let kept = retained_keys _ (is_among c.args.trans.now) _ (λ k v b w g call. search rules) old new c.retain.ensures.filtered in
-    let made = kept_by_key tran_eq tran_cmp_total tran_cmp-IsAntisymmetric tran_eq-by_cmp tran_alike (is_among c.args.trans.now) old new kept
+    let kept =
+    retained_keys _ (is_among c.args.trans.now) _ (λ k v b w g call. search rules) old new
+    c.retain.ensures.filtered in
+    let made = kept_by_key tran_eq tran_cmp_total tran_cmp-IsAntisymmetric tran_eq-by_cmp tran_alike
+    (is_among c.args.trans.now) old new kept
     ∙ ap (λ b. map.retain_keys b.state.records (is_among c.args.trans.now)) c.self.view_is in
     λ i. record { records = made i; failures = (c.self.view_is i).state.failures }
 
 pub returns-clause-forgets : goal.returns-clause-forgets
-returns-clause-forgets c = record {
-  appends = ap (λ b. b.appends) c.self.view_is;
-  failing = ap (λ b. b.failing) c.self.view_is;
-  room = room_stays c.self.inside.is_reserved _ _ _ c.retain.ensures.spare (ap (λ b. b.room) c.self.view_is);
-}
+returns-clause-forgets c =
+    room_stays c.self.inside.is_reserved _ _ _ c.retain.ensures.spare (ap (λ b. b.room) c.self.view_is)

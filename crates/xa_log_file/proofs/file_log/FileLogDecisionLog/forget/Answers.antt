@@ -5,7 +5,8 @@ use Rattle.xa_log_file.proofs.Tables.{records_without, forgets_on_file, forgets_
 use Rattle.xa_log_file.proofs.file_log.FileLogDecisionLog.forget.Goals as goal
 
 pub invariant_of-self : goal.invariant_of-self
-invariant_of-self g c = rw c.forget.ensures (search (arith, forgets_on_file, forgets_shown, c.args.self.now.ready, c.args.self.now.known))
+invariant_of-self g c =
+    rw c.forget.ensures (search (arith, forgets_on_file, forgets_shown, c.args.self.now.ready, c.args.self.now.known))
 
 pub returns-clause-forgotten : goal.returns-clause-forgotten
 returns-clause-forgotten g c = search (arith, records_without, c.args.self.now.table.slots.items, c.args.tran.now)

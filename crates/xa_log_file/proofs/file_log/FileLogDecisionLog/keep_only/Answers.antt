@@ -5,7 +5,9 @@ use Rattle.xa_log_file.proofs.Tables.{records_only, forgets_on_file, forgets_its
 use Rattle.xa_log_file.proofs.file_log.FileLogDecisionLog.keep_only.Goals as goal
 
 pub invariant_of-self : goal.invariant_of-self
-invariant_of-self g c = rw c.keep_only.ensures (search (arith, forgets_on_file, forgets_shown, c.args.self.now.ready, c.args.self.now.known))
+invariant_of-self g c =
+    rw c.keep_only.ensures
+    (search (arith, forgets_on_file, forgets_shown, c.args.self.now.ready, c.args.self.now.known))
 
 pub returns-clause-kept : goal.returns-clause-kept
 returns-clause-kept g c = search (arith, records_only, c.args.self.now.table.slots.items, c.args.trans.now)

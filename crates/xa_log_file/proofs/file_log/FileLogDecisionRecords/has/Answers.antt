@@ -5,14 +5,16 @@ use Rattle.xa_log_file.proofs.Tables.{counted_found, not_counted}
 use Rattle.xa_log_file.proofs.file_log.FileLogDecisionRecords.has.Goals as goal
 
 pub returns-in_err-place : goal.returns-in_err-place
-returns-in_err-place g c = search (arith, not_counted, c.args.self.now.table.slots.items, c.args.tran.now, c.in_err-place.ensures.none)
+returns-in_err-place g c =
+    search (arith, not_counted, c.args.self.now.table.slots.items, c.args.tran.now, c.in_err-place.ensures.none)
 
 pub returns-in-Taken : goal.returns-in-Taken
 returns-in-Taken g c =
     let at = c.in_ok-place.ensures.there in
     sym (counted_found c.args.self.now.table.slots.items (index_apart c.args.self.now.table.indexed)
     c.in_ok-place.place c.args.tran.now c.in-Taken.record
-    (slot_indexed c.args.self.now.table.slots.items c.in_ok-place.place c.index.result.now (Taken c.in-Taken.record) at.0 c.index.ensures c.in-Taken.is)
+    (slot_indexed c.args.self.now.table.slots.items c.in_ok-place.place c.index.result.now (Taken c.in-Taken.record)
+    at.0 c.index.ensures c.in-Taken.is)
     at.1)
 
 pub returns-in_default : goal.returns-in_default

@@ -1,5 +1,5 @@
 use Rattle.xa_base.proofs.{[], ◌∷◌, ◌++◌, ◌≡◌, ◌+◌, Bool, true, false, ◌∙◌, ap, sym, arith}
-use Rattle.xa_log_file.specs.{failures, failed, last_synced, synced_after, Synced}
+use Rattle.xa_log_file.specs.{failures, count_failed, last_synced, synced_after, Synced}
 use Rattle.xa_log_file.proofs.Moments.{leaves_to, elapses_to, failures_to}
 use Rattle.xa_log_file.proofs.Noted.{synced_to}
 use Rattle.xa_log_file.proofs.mirrored.MirroredDevice.sync.Goals as goal
@@ -7,7 +7,8 @@ use Rattle.xa_log_file.proofs.mirrored.MirroredDevice.sync.Goals as goal
 pub returns-then-ok-clause-durable : goal.returns-then-ok-clause-durable
 returns-then-ok-clause-durable g c = λ f left.
     leaves_to c.args.self.now.past.items c.and-self.result.items (Synced true) c.args.self.now.bytes f
-    (c.and-self.ensures ∙ ap (λ (b : Bool). c.args.self.now.past.items ++ (Synced b, c.args.self.now.bytes) ∷ []) c.if-ok.true) left
+    (c.and-self.ensures
+    ∙ ap (λ (b : Bool). c.args.self.now.past.items ++ (Synced b, c.args.self.now.bytes) ∷ []) c.if-ok.true) left
 
 pub returns-then-ok-clause-cause : goal.returns-then-ok-clause-cause
 returns-then-ok-clause-cause g c = search (arith, failures_to, c.args.self.now.past.items, c.and-self.result.items)
@@ -15,7 +16,8 @@ returns-then-ok-clause-cause g c = search (arith, failures_to, c.args.self.now.p
 pub returns-else-ok-clause-crash : goal.returns-else-ok-clause-crash
 returns-else-ok-clause-crash g c = λ f left.
     leaves_to c.args.self.now.past.items c.and-self.result.items (Synced false) c.args.self.now.bytes f
-    (c.and-self.ensures ∙ ap (λ (b : Bool). c.args.self.now.past.items ++ (Synced b, c.args.self.now.bytes) ∷ []) c.if-ok.false) left
+    (c.and-self.ensures
+    ∙ ap (λ (b : Bool). c.args.self.now.past.items ++ (Synced b, c.args.self.now.bytes) ∷ []) c.if-ok.false) left
 
 pub returns-else-ok-clause-time : goal.returns-else-ok-clause-time
 returns-else-ok-clause-time g c = elapses_to c.args.self.now.past.items c.and-self.result.items _ _ c.and-self.ensures
@@ -36,7 +38,8 @@ invariant_of-self g c =
       usable = λ ok.
           let before : failures past ≡ 0 = c.args.self.now.usable (c.sync_file-ok.ensures.usable ok) in
           let made : failures c.and-self.result.items ≡ 0 + failures past =
-          failures_to past c.and-self.result.items (Synced c.sync_file-ok.result) c.args.self.now.bytes c.and-self.ensures
-          ∙ ap (λ (b : Bool). failed (Synced b) + failures past) ok in
+          failures_to past c.and-self.result.items (Synced c.sync_file-ok.result) c.args.self.now.bytes
+          c.and-self.ensures
+          ∙ ap (λ (b : Bool). count_failed (Synced b) + failures past) ok in
           omega (arith, made, before);
     }

@@ -8,7 +8,12 @@ loop-place-init c = search (arith, none_free_used)
 
 pub returns-then-left-eq0-clause-room : goal.returns-then-left-eq0-clause-room
 returns-then-left-eq0-clause-room c = λ yes_.
-    search (arith, room_for c.args.self.now.slots.items c.loop-place.place c.args.count, c.args.self.now.slots.ok.0, c.len-place-end.ensures)
+    search (
+      arith,
+      room_for c.args.self.now.slots.items c.loop-place.place c.args.count,
+      c.args.self.now.slots.ok.0,
+      c.len-place-end.ensures,
+    )
 
 pub loop-place-preserved : goal.loop-place-preserved
 loop-place-preserved c = search (arith, used_next, in-Free, slot_indexed, in_default, get_or_default)

@@ -9,4 +9,5 @@ returns-else-is_some-clause-new g c known = search (arith, is_missing, new_push,
 pub returns-else-is_some-clause-moves : goal.returns-else-is_some-clause-moves
 returns-else-is_some-clause-moves g c =
     let self = c.args.self.now in
-    moves_push _ self.is_known _ _ self.waiting.items _ (record { from = c.args.from; decision = c.args.decision.now }) c.push_reserved.ensures.items
+    moves_push _ self.is_known _ _ self.waiting.items _ (record { from = c.args.from; decision = c.args.decision.now })
+    c.push_reserved.ensures.items

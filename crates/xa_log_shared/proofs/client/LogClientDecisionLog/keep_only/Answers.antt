@@ -10,14 +10,22 @@ pub returns-clause-kept : goal.returns-clause-kept
 returns-clause-kept g c =
     let old = c.args.self.now.records.entries in
     let new = c.retain.new.self.entries in
-    let kept = retained_keys _ (is_among c.args.trans.now) _ (λ k v b w f call. search rules) old new c.retain.ensures.filtered in
-    let made = kept_by_key tran_eq tran_cmp_total tran_cmp-IsAntisymmetric tran_eq-by_cmp tran_alike (is_among c.args.trans.now) old new kept in
+    let kept =
+    retained_keys _ (is_among c.args.trans.now) _ (λ k v b w f call. search rules) old new
+    c.retain.ensures.filtered in
+    let made =
+    kept_by_key tran_eq tran_cmp_total tran_cmp-IsAntisymmetric tran_eq-by_cmp tran_alike
+    (is_among c.args.trans.now) old new kept in
     λ i. record { records = made i; failures = c.args.self.now.failures }
 
 pub returns-clause-forgets : goal.returns-clause-forgets
 returns-clause-forgets g c =
     let old = c.args.self.now.records.entries in
     let new = c.retain.new.self.entries in
-    let kept = retained_keys _ (is_among c.args.trans.now) _ (λ k v b w f call. search rules) old new c.retain.ensures.filtered in
-    let made = kept_by_key tran_eq tran_cmp_total tran_cmp-IsAntisymmetric tran_eq-by_cmp tran_alike (is_among c.args.trans.now) old new kept in
+    let kept =
+    retained_keys _ (is_among c.args.trans.now) _ (λ k v b w f call. search rules) old new
+    c.retain.ensures.filtered in
+    let made =
+    kept_by_key tran_eq tran_cmp_total tran_cmp-IsAntisymmetric tran_eq-by_cmp tran_alike
+    (is_among c.args.trans.now) old new kept in
     ((others c.args.trans.now old, rw made (drops_others c.args.trans.now old), c.forget_others.ensures), refl)

@@ -16,7 +16,8 @@ returns-clause-opened g c = λ b o line closed same number.
     let next_number : c.args.self.opening + 1 ≡ suc b.opening = omega (arith, number) in
     let numbers : AreNumbersOf s (suc b.opening) again = rw next_number at c.again_of-again.ensures in
     let (b', follows, follow_number, is_open) =
-    goes_on s b o closed.left closed.comes settled same again numbers desks workers zs logs closed.logs_are c.in-Ok.ensures.opened c.in-Ok.ensures.scans in (
+    goes_on s b o closed.left closed.comes settled same again numbers desks workers zs logs closed.logs_are
+    c.in-Ok.ensures.opened c.in-Ok.ensures.scans in (
       b',
       follows line,
       numbers.opening_ ∙ sym follow_number,

@@ -12,7 +12,8 @@ returns-in_err-add-clause-refused g c = λ told clean.
     let rows = (view c.args.self.now.trees).trees c.args.table in
     let found = c.loop-slots.slots.items in
     let row = c.next.new.row in
-    let clean_before : IsClean (view c.loop-slots.self.trees) = let le = c.in_ok-next.ensures.quiet.clean in omega arith in
+    let clean_before : IsClean (view c.loop-slots.self.trees) = let le = c.in_ok-next.ensures.quiet.clean in
+    omega arith in
     let reading = c.loop-slots.invariant.reading clean_before in
     let given = rw c.if-branch.true at (c.in_ok-next.ensures.ok clean) in
     let left : reading.left ≡ row ∷ given.0 = same_Some _ _ (sym reading.given ∙ given.1) in

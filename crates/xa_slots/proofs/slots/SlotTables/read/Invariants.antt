@@ -13,7 +13,8 @@ invariant-loop-slots g l =
       live : IsSome ((view l.self.trees).cursors 0);
       sound : IsClean (view l.self.trees) → (view l.fn.self.trees).is_broken ≡ false;
       only : OnlyReads (view l.fn.self.trees) (view l.self.trees);
-      reading : IsClean (view l.self.trees) → IsReading l.table 0 (view l.fn.self.trees) (view l.self.trees) l.slots.items;
+      reading : IsClean (view l.self.trees)
+          → IsReading l.table 0 (view l.fn.self.trees) (view l.self.trees) l.slots.items;
       quiet : IsQuiet view g.S.Store.faults g.S.Store.recovers g.S.Store.is_shielded l.fn.self.trees l.self.trees;
     }
 

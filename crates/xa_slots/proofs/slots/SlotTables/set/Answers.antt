@@ -16,5 +16,6 @@ returns-clause-set g c = λ many all knows among within clean.
       ap (λ (v : View). v.is_broken) made.is ∙ made.sound,
       λ t below. ap (λ (v : View). v.trees t) made.is
           ∙ ap (λ (row : Row). with_tree trees c.args.table (put_row row (trees c.args.table)) t) c.in_ok-spell.ensures
-          ∙ sets many all trees before.1 c.args.table c.args.slot among within (c.args.slot + 1) (map owned c.args.cells.now) refl t below,
+          ∙ sets many all trees before.1 c.args.table c.args.slot among within (c.args.slot + 1)
+          (map owned c.args.cells.now) refl t below,
     )

@@ -6,5 +6,7 @@ use Rattle.xa_store_sqlite.proofs.kept.Kept.clear_branch.Goals as goal
 pub returns-clause-written : goal.returns-clause-written
 returns-clause-written g c = λ knows.
     let image = image_of c.args.self.now.mirror in
-    let done = c.in_ok-clear.ensures.cleared 4 (slots_of image) knows (omega arith) (among _ image.branches c.args.slot c.requires) in
+    let done =
+    c.in_ok-clear.ensures.cleared 4 (slots_of image) knows (omega arith)
+    (among _ image.branches c.args.slot c.requires) in
     knows_branch (g.S.Store.view c.clear.new.self.trees) image c.args.slot _ None refl done

@@ -11,7 +11,8 @@ invariant-loop-place g l =
     let recovers = g.S.Store.recovers in
     record {
       image : image_of l.self.mirror ≡ cleared_to (image_of l.fn.self.mirror) l.slot l.place;
-      seen : IsSeen (view l.fn.self.tables.trees) (recovers l.fn.self.tables.trees) l.fn.self.is_written (image_of l.fn.self.mirror)
+      seen : IsSeen (view l.fn.self.tables.trees) (recovers l.fn.self.tables.trees) l.fn.self.is_written
+          (image_of l.fn.self.mirror)
           → IsSeen (view l.self.tables.trees) (recovers l.self.tables.trees) l.self.is_written (image_of l.self.mirror);
       slots : l.self.slots ≡ l.fn.self.slots;
       places : l.self.places ≡ l.fn.self.places;

@@ -21,7 +21,9 @@ loop-place-preserved g c =
     record {
       filled = λ bare.
           subst (λ (m : Mirror). Knows 4 new (accounts_to (c.loop-place.place + 1) (image_of m))) i.mirror
-          (c.in_ok-fill_account.ensures.filled (subst (λ (m : Mirror). Knows 4 old (accounts_to c.loop-place.place (image_of m))) (sym i.mirror) (i.filled bare)));
+          (c.in_ok-fill_account.ensures.filled
+          (subst (λ (m : Mirror). Knows 4 old (accounts_to c.loop-place.place (image_of m))) (sym i.mirror)
+          (i.filled bare)));
       mirror = c.fill_account.ensures.mirror ∙ i.mirror;
       slots = c.fill_account.ensures.slots ∙ i.slots;
       places = c.fill_account.ensures.places ∙ i.places;
@@ -30,5 +32,8 @@ loop-place-preserved g c =
 pub returns-clause-filled : goal.returns-clause-filled
 returns-clause-filled g c = λ bare.
     let i = c.loop-place.invariant in
-    let last : c.loop-place.place ≡ c.in-Ok.count = omega (arith, c.loop-place-test.false, c.loop-place.auto.place-end) in
-    subst (λ n. Knows 4 (g.S.Store.view c.loop-place.self.tables.trees) (accounts_to n (image_of c.args.self.now.mirror))) (last ∙ c.in-Ok.ensures.count) (i.filled bare)
+    let last : c.loop-place.place ≡ c.in-Ok.count =
+    omega (arith, c.loop-place-test.false, c.loop-place.auto.place-end) in
+    subst
+    (λ n. Knows 4 (g.S.Store.view c.loop-place.self.tables.trees) (accounts_to n (image_of c.args.self.now.mirror)))
+    (last ∙ c.in-Ok.ensures.count) (i.filled bare)

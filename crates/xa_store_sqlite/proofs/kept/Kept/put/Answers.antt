@@ -11,7 +11,8 @@ pub returns-in_default-clause-put : goal.returns-in_default-clause-put
 returns-in_default-clause-put g c = λ o lacks.
     let image = image_of c.args.self.now.mirror in
     let x = c.args.xid.now in (
-      none_left x image c.args.manager.now.tables (sym (ap left_in c.state.ensures) ∙ sym c.of.ensures ∙ c.in_default.is) lacks,
+      none_left x image c.args.manager.now.tables
+          (sym (ap left_in c.state.ensures) ∙ sym c.of.ensures ∙ c.in_default.is) lacks,
       same_differs x image,
     )
 
@@ -23,7 +24,8 @@ returns-in-Completed-clause-put g c = λ o lacks.
     let slot = c.in_ok-slot.slot in
     let left = c.in-Some.left in
     let put = c.in_ok-slot.ensures.put o lacks in (
-      completed_has x slot left old new c.args.manager.now.tables (sym (ap left_in c.state.ensures) ∙ sym c.of.ensures ∙ c.in-Some.is)
+      completed_has x slot left old new c.args.manager.now.tables
+          (sym (ap left_in c.state.ensures) ∙ sym c.of.ensures ∙ c.in-Some.is)
           (ap (λ (l : Left). is_S3 (Some (state_of_left l))) c.in-Completed.is) lacks put,
       branch_differs x slot left old new put,
     )
@@ -33,7 +35,8 @@ returns-in-Prepared-clause-order g c = λ o lacks.
     let put = c.in_ok-slot.ensures.put o lacks in
     let branches = c.put_left.new.self.mirror.branches.items in
     c.put_sums.ensures.order (c.in_ok-slot.ensures.order o lacks)
-    (is_there (item_at branches c.in_ok-slot.slot) c.args.xid.now (named branches c.in_ok-slot.slot c.args.xid.now put.name))
+    (is_there (item_at branches c.in_ok-slot.slot) c.args.xid.now
+    (named branches c.in_ok-slot.slot c.args.xid.now put.name))
 
 pub returns-in-Prepared-clause-put : goal.returns-in-Prepared-clause-put
 returns-in-Prepared-clause-put g c = λ o lacks.
@@ -50,8 +53,10 @@ returns-in-Prepared-clause-put g c = λ o lacks.
     let on = ap (λ (l : Left). is_S3 (Some (state_of_left l))) c.in-Prepared.is in
     on_ok_weaker c.put_sums.result
     (λ (sums : PutsSums x amounts mid new). (
-      prepared_has x slot left old mid new T amounts is on put sums (λ k. ap (lookup (key_eq k)) c.deref.ensures.value ∙ c.sums_of.ensures.each k),
+      prepared_has x slot left old mid new T amounts is on put sums
+          (λ k. ap (lookup (key_eq k)) c.deref.ensures.value ∙ c.sums_of.ensures.each k),
       sums_differ x slot left old mid new amounts put sums,
     ))
     (c.put_sums.ensures.sums (c.in_ok-slot.ensures.order o lacks) x put.name (λ k. put.sums x k ∙ lacks.sums k)
-    (subst (λ (l : List (List ℕ × ℤ)). IsDistinct key_eq (keys_of l)) (sym c.deref.ensures.value) c.sums_of.ensures.once))
+    (subst (λ (l : List (List ℕ × ℤ)). IsDistinct key_eq (keys_of l)) (sym c.deref.ensures.value)
+    c.sums_of.ensures.once))

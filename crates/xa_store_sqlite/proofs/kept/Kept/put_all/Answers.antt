@@ -18,21 +18,28 @@ loop-xid-preserved g c =
     let ys = map deref c.loop-xid.yielded in
     let y = c.in-Some.xid.now in
     let more = map-append deref c.loop-xid.yielded (c.in-Some.xid ∷ []) in
-    let next = rest_more deref c.loop-xid.xid-iterator c.next.new.self c.next.result c.in-Some.xid c.in-Some.is c.next.ensures.steps in
+    let next =
+    rest_more deref c.loop-xid.xid-iterator c.next.new.self c.next.result c.in-Some.xid c.in-Some.is
+    c.next.ensures.steps in
     record {
-      so_far = ap (λ l. l ++ c.next.new.self) more ∙ next_split told ys y c.next.new.self c.loop-xid.xid-iterator i.so_far next;
+      so_far = ap (λ l. l ++ c.next.new.self) more
+          ∙ next_split told ys y c.next.new.self c.loop-xid.xid-iterator i.so_far next;
       seen = λ seen. c.in_ok-put.ensures.seen (i.seen seen);
       order = λ o none.
           c.in_ok-put.ensures.order (i.order o none)
-          (next_lacks told ys y c.next.new.self c.loop-xid.xid-iterator T (image_of first.mirror) (image_of old.mirror) i.so_far next c.iter-xid-items.ensures.unique none (i.put o none));
+          (next_lacks told ys y c.next.new.self c.loop-xid.xid-iterator T (image_of first.mirror) (image_of old.mirror)
+          i.so_far next c.iter-xid-items.ensures.unique none (i.put o none));
       put = λ o none.
           let lacks =
-          next_lacks told ys y c.next.new.self c.loop-xid.xid-iterator T (image_of first.mirror) (image_of old.mirror) i.so_far next c.iter-xid-items.ensures.unique none (i.put o none) in
+          next_lacks told ys y c.next.new.self c.loop-xid.xid-iterator T (image_of first.mirror) (image_of old.mirror)
+          i.so_far next c.iter-xid-items.ensures.unique none (i.put o none) in
           let done = c.in_ok-put.ensures.put (i.order o none) lacks in
           subst (λ (l : List XidName). PutsAll l T (image_of first.mirror) (image_of new.mirror)) (sym more)
-          (one_put_more ys T y (image_of first.mirror) (image_of old.mirror) (image_of new.mirror) (i.put o none) done.0 done.1);
+          (one_put_more ys T y (image_of first.mirror) (image_of old.mirror) (image_of new.mirror) (i.put o none) done.0
+          done.1);
       room = c.put.ensures.room ∙ i.room;
-      quiet = quiet_on g.S.Store.view g.S.Store.faults g.S.Store.recovers g.S.Store.is_shielded first.tables.trees old.tables.trees new.tables.trees i.quiet c.put.ensures.quiet;
+      quiet = quiet_on g.S.Store.view g.S.Store.faults g.S.Store.recovers g.S.Store.is_shielded first.tables.trees
+          old.tables.trees new.tables.trees i.quiet c.put.ensures.quiet;
     }
 
 pub returns-clause-put : goal.returns-clause-put
@@ -41,7 +48,9 @@ returns-clause-put g c = λ o none.
     let i = c.loop-xid.invariant in
     let all = all_split c.args.xids.now.keys (map deref c.loop-xid.yielded) c.loop-xid.xid-iterator i.so_far
     (rest_all deref c.loop-xid.xid-iterator c.next.new.self c.next.result c.in-None.is c.next.ensures.steps) in
-    subst (λ (l : List XidName). PutsAll l c.args.manager.now.tables (image_of first.mirror) (image_of c.loop-xid.self.mirror)) all (i.put o none)
+    subst
+    (λ (l : List XidName). PutsAll l c.args.manager.now.tables (image_of first.mirror)
+    (image_of c.loop-xid.self.mirror)) all (i.put o none)
 
 pub loop-xid-init : goal.loop-xid-init
 loop-xid-init g c = record {
@@ -50,9 +59,11 @@ loop-xid-init g c = record {
   order = λ o none. o;
   put = λ o none. none_put c.args.manager.now.tables (image_of c.args.self.now.mirror);
   room = refl;
-  quiet = quiet_same g.S.Store.view g.S.Store.faults g.S.Store.recovers g.S.Store.is_shielded c.args.self.now.tables.trees;
+  quiet = quiet_same g.S.Store.view g.S.Store.faults g.S.Store.recovers g.S.Store.is_shielded
+      c.args.self.now.tables.trees;
 }
 
 pub returns-in_err-put-clause-quiet : goal.returns-in_err-put-clause-quiet
 returns-in_err-put-clause-quiet g c =
-    quiet_on g.S.Store.view g.S.Store.faults g.S.Store.recovers g.S.Store.is_shielded _ c.loop-xid.self.tables.trees _ c.loop-xid.invariant.quiet c.put.ensures.quiet
+    quiet_on g.S.Store.view g.S.Store.faults g.S.Store.recovers g.S.Store.is_shielded _ c.loop-xid.self.tables.trees _
+    c.loop-xid.invariant.quiet c.put.ensures.quiet

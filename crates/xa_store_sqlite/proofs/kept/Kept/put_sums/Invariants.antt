@@ -1,7 +1,7 @@
 use Rattle.xa_base.proofs.{◌≡◌, Some, IsDistinct, List, None, is_some, keys_of, take, true, ℕ}
 use Rattle.sqlite_trees.specs.View.{IsQuiet}
 use Rattle.xa_words.specs.{XidName, key_eq}
-use Rattle.xa_store_sqlite.specs.{IsInOrder, IsSeen, PutsSums, image_of, item_at, name_at, sum_in}
+use Rattle.xa_store_sqlite.specs.{IsInOrder, IsSeen, PutsSums, image_of, item_at, branch_name_at, sum_in}
 use Rattle.xa_store_sqlite.proofs.kept.Kept.put_sums.Given as goal
 
 -- the first sums are put
@@ -10,14 +10,15 @@ invariant-loop-key g l =
     let view = g.S.Store.view in
     let recovers = g.S.Store.recovers in
     record {
-      seen : IsSeen (view l.fn.self.tables.trees) (recovers l.fn.self.tables.trees) l.fn.self.is_written (image_of l.fn.self.mirror)
+      seen : IsSeen (view l.fn.self.tables.trees) (recovers l.fn.self.tables.trees) l.fn.self.is_written
+          (image_of l.fn.self.mirror)
           → IsSeen (view l.self.tables.trees) (recovers l.self.tables.trees) l.self.is_written (image_of l.self.mirror);
       order : IsInOrder l.fn.self.slots.entries l.fn.self.places.entries (image_of l.fn.self.mirror)
           → is_some (item_at l.fn.self.mirror.branches.items l.slot) ≡ true
           → IsInOrder l.self.slots.entries l.self.places.entries (image_of l.self.mirror);
       branches : l.self.mirror.branches.items ≡ l.fn.self.mirror.branches.items;
       sums : IsInOrder l.fn.self.slots.entries l.fn.self.places.entries (image_of l.fn.self.mirror)
-          → (x : XidName) → name_at l.fn.self.mirror.branches.items l.slot ≡ Some x
+          → (x : XidName) → branch_name_at l.fn.self.mirror.branches.items l.slot ≡ Some x
           → ((k : List ℕ) → sum_in (image_of l.fn.self.mirror) x k ≡ None)
           → IsDistinct key_eq (keys_of l.sums)
           → PutsSums x (take l.key-index l.sums) (image_of l.fn.self.mirror) (image_of l.self.mirror);

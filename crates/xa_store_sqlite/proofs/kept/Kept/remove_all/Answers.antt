@@ -16,16 +16,21 @@ loop-xid-preserved g c =
     let ys = map deref c.loop-xid.yielded in
     let y = c.in-Some.xid.now in
     let more = map-append deref c.loop-xid.yielded (c.in-Some.xid ∷ []) in
-    let next = rest_more deref c.loop-xid.xid-iterator c.next.new.self c.next.result c.in-Some.xid c.in-Some.is c.next.ensures.steps in
+    let next =
+    rest_more deref c.loop-xid.xid-iterator c.next.new.self c.next.result c.in-Some.xid c.in-Some.is
+    c.next.ensures.steps in
     record {
-      so_far = ap (λ l. l ++ c.next.new.self) more ∙ next_split c.args.xids.now.keys ys y c.next.new.self c.loop-xid.xid-iterator i.so_far next;
+      so_far = ap (λ l. l ++ c.next.new.self) more
+          ∙ next_split c.args.xids.now.keys ys y c.next.new.self c.loop-xid.xid-iterator i.so_far next;
       seen = λ seen. c.in_ok-remove.ensures.seen (i.seen seen);
       order = λ o. c.in_ok-remove.ensures.order (i.order o);
       removed = λ o.
           let done = c.in_ok-remove.ensures.removed (i.order o) in
           subst (λ (l : List XidName). RemovesAll l (image_of first.mirror) (image_of new.mirror)) (sym more)
-          (one_removed_more ys y (image_of first.mirror) (image_of old.mirror) (image_of new.mirror) (i.removed o) done.0 done.1);
-      quiet = quiet_on g.S.Store.view g.S.Store.faults g.S.Store.recovers g.S.Store.is_shielded first.tables.trees old.tables.trees new.tables.trees i.quiet c.remove.ensures.quiet;
+          (one_removed_more ys y (image_of first.mirror) (image_of old.mirror) (image_of new.mirror) (i.removed o)
+          done.0 done.1);
+      quiet = quiet_on g.S.Store.view g.S.Store.faults g.S.Store.recovers g.S.Store.is_shielded first.tables.trees
+          old.tables.trees new.tables.trees i.quiet c.remove.ensures.quiet;
     }
 
 pub returns-clause-removed : goal.returns-clause-removed
@@ -34,7 +39,8 @@ returns-clause-removed g c = λ o.
     let i = c.loop-xid.invariant in
     let all = all_split c.args.xids.now.keys (map deref c.loop-xid.yielded) c.loop-xid.xid-iterator i.so_far
     (rest_all deref c.loop-xid.xid-iterator c.next.new.self c.next.result c.in-None.is c.next.ensures.steps) in
-    subst (λ (l : List XidName). RemovesAll l (image_of first.mirror) (image_of c.loop-xid.self.mirror)) all (i.removed o)
+    subst (λ (l : List XidName). RemovesAll l (image_of first.mirror) (image_of c.loop-xid.self.mirror)) all
+    (i.removed o)
 
 pub loop-xid-init : goal.loop-xid-init
 loop-xid-init g c = record {
@@ -42,9 +48,11 @@ loop-xid-init g c = record {
   seen = λ seen. seen;
   order = λ o. o;
   removed = λ o. none_removed (image_of c.args.self.now.mirror);
-  quiet = quiet_same g.S.Store.view g.S.Store.faults g.S.Store.recovers g.S.Store.is_shielded c.args.self.now.tables.trees;
+  quiet = quiet_same g.S.Store.view g.S.Store.faults g.S.Store.recovers g.S.Store.is_shielded
+      c.args.self.now.tables.trees;
 }
 
 pub returns-in_err-remove-clause-quiet : goal.returns-in_err-remove-clause-quiet
 returns-in_err-remove-clause-quiet g c =
-    quiet_on g.S.Store.view g.S.Store.faults g.S.Store.recovers g.S.Store.is_shielded _ c.loop-xid.self.tables.trees _ c.loop-xid.invariant.quiet c.remove.ensures.quiet
+    quiet_on g.S.Store.view g.S.Store.faults g.S.Store.recovers g.S.Store.is_shielded _ c.loop-xid.self.tables.trees _
+    c.loop-xid.invariant.quiet c.remove.ensures.quiet

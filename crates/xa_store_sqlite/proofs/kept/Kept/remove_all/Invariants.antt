@@ -15,7 +15,8 @@ invariant-loop-xid g l =
       so_far : map deref l.yielded ++ l.xid-iterator ≡ l.xids.keys;
       seen : IsSeen (view old.tables.trees) (recovers old.tables.trees) old.is_written (image_of old.mirror)
           → IsSeen (view new.tables.trees) (recovers new.tables.trees) new.is_written (image_of new.mirror);
-      order : IsInOrder old.slots.entries old.places.entries (image_of old.mirror) → IsInOrder new.slots.entries new.places.entries (image_of new.mirror);
+      order : IsInOrder old.slots.entries old.places.entries (image_of old.mirror)
+          → IsInOrder new.slots.entries new.places.entries (image_of new.mirror);
       removed : IsInOrder old.slots.entries old.places.entries (image_of old.mirror)
           → RemovesAll (map deref l.yielded) (image_of old.mirror) (image_of new.mirror);
       quiet : IsQuiet view g.S.Store.faults recovers g.S.Store.is_shielded old.tables.trees new.tables.trees;

@@ -6,5 +6,8 @@ use Rattle.xa_store_sqlite.proofs.kept.Kept.set_account.Goals as goal
 pub returns-clause-written : goal.returns-clause-written
 returns-clause-written g c = λ knows.
     let image = image_of c.args.self.now.mirror in
-    let done = c.in_ok-set.ensures.set 4 (slots_of image) knows (omega arith) (among _ image.accounts c.args.place c.requires.place) in
-    knows_account (g.S.Store.view c.set.new.self.trees) image c.args.place _ (c.args.key, c.args.value) (ap Some c.account_cells.ensures) done
+    let done =
+    c.in_ok-set.ensures.set 4 (slots_of image) knows (omega arith)
+    (among _ image.accounts c.args.place c.requires.place) in
+    knows_account (g.S.Store.view c.set.new.self.trees) image c.args.place _ (c.args.key, c.args.value)
+    (ap Some c.account_cells.ensures) done

@@ -6,5 +6,8 @@ use Rattle.xa_store_sqlite.proofs.kept.Kept.set_branch.Goals as goal
 pub returns-clause-written : goal.returns-clause-written
 returns-clause-written g c = λ knows.
     let image = image_of c.args.self.now.mirror in
-    let done = c.in_ok-set.ensures.set 4 (slots_of image) knows (omega arith) (among _ image.branches c.args.slot c.requires) in
-    knows_branch (g.S.Store.view c.set.new.self.trees) image c.args.slot _ (Some c.args.branch) (ap Some c.branch_cells.ensures) done
+    let done =
+    c.in_ok-set.ensures.set 4 (slots_of image) knows (omega arith)
+    (among _ image.branches c.args.slot c.requires) in
+    knows_branch (g.S.Store.view c.set.new.self.trees) image c.args.slot _ (Some c.args.branch)
+    (ap Some c.branch_cells.ensures) done

@@ -6,5 +6,8 @@ use Rattle.xa_store_sqlite.proofs.kept.Kept.set_change.Goals as goal
 pub returns-clause-written : goal.returns-clause-written
 returns-clause-written g c = λ knows.
     let image = image_of c.args.self.now.mirror in
-    let done = c.in_ok-set.ensures.set 4 (slots_of image) knows (omega arith) (among _ image.changes c.args.place c.requires) in
-    knows_change (g.S.Store.view c.set.new.self.trees) image c.args.place _ (Some c.args.change) (ap Some c.change_cells.ensures) done
+    let done =
+    c.in_ok-set.ensures.set 4 (slots_of image) knows (omega arith)
+    (among _ image.changes c.args.place c.requires) in
+    knows_change (g.S.Store.view c.set.new.self.trees) image c.args.place _ (Some c.args.change)
+    (ap Some c.change_cells.ensures) done

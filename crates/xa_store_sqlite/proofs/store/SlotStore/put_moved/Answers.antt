@@ -8,4 +8,5 @@ returns-clause-values g c = λ h.
     let T = c.args.manager.now.tables in
     let old = image_of c.args.self.now.kept.mirror in
     let new = image_of c.put_values.new.self.mirror in
-    on_ok_weaker c.put_values.result (λ (v : HasValuesOf T old new). all_valued c.args.self.now.are_moved T old new h v) c.put_values.ensures.values
+    on_ok_weaker c.put_values.result (λ (v : HasValuesOf T old new). all_valued c.args.self.now.are_moved T old new h v)
+    c.put_values.ensures.values

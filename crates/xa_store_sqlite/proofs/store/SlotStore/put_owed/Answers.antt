@@ -17,10 +17,15 @@ returns-clause-all g c = λ o h.
     let T = c.args.manager.now.tables in
     let removed = c.in_ok-remove_told.ensures.removed o in
     let put =
-    c.in_ok-put_told.ensures.put (c.in_ok-remove_told.ensures.order o) (λ x on. removed.gone x (ap (λ t. list_any (xid_eq x) t.branches.keys) (sym c.remove_told.ensures.told) ∙ on)) in
+    c.in_ok-put_told.ensures.put (c.in_ok-remove_told.ensures.order o)
+    (λ x on. removed.gone x
+    (ap (λ t. list_any (xid_eq x) t.branches.keys) (sym c.remove_told.ensures.told) ∙ on)) in
     let same =
-    subst (λ (t : List XidName). PutsAll t T (image_of c.remove_told.new.self.kept.mirror) (image_of c.put_told.new.self.kept.mirror)) (ap (λ t. t.branches.keys) c.remove_told.ensures.told) put in
+    subst
+    (λ (t : List XidName). PutsAll t T (image_of c.remove_told.new.self.kept.mirror)
+    (image_of c.put_told.new.self.kept.mirror)) (ap (λ t. t.branches.keys) c.remove_told.ensures.told) put in
     let moved = c.put_told.ensures.moved ∙ c.remove_told.ensures.moved in
     c.put_moved.ensures.values
     (subst (λ b. HasAllBut [] b (image_of c.put_told.new.self.kept.mirror) T) (sym moved)
-    (all_put first.told.branches.keys first.are_moved T (image_of first.kept.mirror) (image_of c.remove_told.new.self.kept.mirror) (image_of c.put_told.new.self.kept.mirror) h removed same))
+    (all_put first.told.branches.keys first.are_moved T (image_of first.kept.mirror)
+    (image_of c.remove_told.new.self.kept.mirror) (image_of c.put_told.new.self.kept.mirror) h removed same))

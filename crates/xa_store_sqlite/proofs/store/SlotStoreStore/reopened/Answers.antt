@@ -6,4 +6,8 @@ pub returns-clause-known : goal.returns-clause-known
 returns-clause-known g c = λ T knows durable well.
     let s = c.args.self in
     let k = knows well in
-    record { has = has_reopened s.told.branches.keys s.are_moved (image_of s.kept.mirror) T k.has; settled = k.settled; order = k.order }
+    record {
+      has = has_reopened s.told.branches.keys s.are_moved (image_of s.kept.mirror) T k.has;
+      settled = k.settled;
+      order = k.order;
+    }

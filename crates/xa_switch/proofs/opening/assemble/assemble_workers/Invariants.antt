@@ -11,6 +11,8 @@ invariant-loop-part l = record {
   requests : IsLeft l.fn.receivers.items l.yielded l.receivers;
   senders : IsLeft l.fn.columns.items l.yielded l.columns;
   made : (length l.workers.items ≡ length l.yielded)
-      × Each (IsWorkerOf l.fn.parts.items l.fn.managers.items l.fn.receivers.items (map (λ v. v.items) l.fn.columns.items)) l.workers.items;
+      × Each
+      (IsWorkerOf l.fn.parts.items l.fn.managers.items l.fn.receivers.items (map (λ v. v.items) l.fn.columns.items))
+      l.workers.items;
   room : vec_capacity l.workers ≡ vec_capacity l.fn.workers;
 }

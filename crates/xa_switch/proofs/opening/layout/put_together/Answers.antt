@@ -8,7 +8,8 @@ assemble_desks-desks-requires c =
     record {
       none = is.desks.0;
       room = is.desks.1;
-      columns = omega (arith, is.requests.wide, is.threads, length-map c.args.layout.requests.columns.items (λ v. v.items));
+      columns = omega
+          (arith, is.requests.wide, is.threads, length-map c.args.layout.requests.columns.items (λ v. v.items));
       receivers = omega (arith, is.completions.many, is.threads);
       fit = desks_fit c.args.layout c.args.managers.items is c.requires.many c.requires.new c.requires.begins;
     }
@@ -18,6 +19,8 @@ assemble_workers-workers-requires c = grind (arith, length-map, workers_fit)
 
 pub returns : goal.returns
 returns c =
-    one_opening c.args.layout c.args.managers.items c.requires.laid_out c.requires.many c.requires.new c.requires.begins c.assemble_desks-desks.result.items
-    c.assemble_workers-workers.result.items c.assemble_desks-desks.ensures.many c.assemble_workers-workers.ensures.many c.assemble_desks-desks.ensures.made
+    one_opening c.args.layout c.args.managers.items c.requires.laid_out c.requires.many c.requires.new c.requires.begins
+    c.assemble_desks-desks.result.items
+    c.assemble_workers-workers.result.items c.assemble_desks-desks.ensures.many c.assemble_workers-workers.ensures.many
+    c.assemble_desks-desks.ensures.made
     c.assemble_workers-workers.ensures.made

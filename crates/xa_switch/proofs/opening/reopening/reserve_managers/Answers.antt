@@ -15,5 +15,6 @@ loop-place-preserved c =
     record {
       parts = search (arith, map-set_same, c.index_mut.result.now);
       many = length-set managers i after ∙ c.loop-place.invariant.many;
-      reserved = rw (take_more_set managers i after (omega arith)) (All-push Has (take i managers) after c.loop-place.invariant.reserved c.in_ok-reserve.ensures.reserved);
+      reserved = rw (take_more_set managers i after (omega arith))
+          (All-push Has (take i managers) after c.loop-place.invariant.reserved c.in_ok-reserve.ensures.reserved);
     }

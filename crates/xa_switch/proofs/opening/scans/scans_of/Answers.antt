@@ -11,5 +11,6 @@ loop-preserved c =
     record {
       counted = omega (arith, c.loop.invariant.counted, grown, length-append c.loop.scans.items (c.over.result ∷ []));
       room = c.push_reserved.ensures.capacity ∙ c.loop.invariant.room;
-      each = rw c.push_reserved.ensures.items (All-push (IsScanOf s) c.loop.scans.items c.over.result c.loop.invariant.each is);
+      each = rw c.push_reserved.ensures.items
+          (All-push (IsScanOf s) c.loop.scans.items c.over.result c.loop.invariant.each is);
     }

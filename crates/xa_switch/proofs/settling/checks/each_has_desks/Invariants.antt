@@ -5,4 +5,5 @@ use Rattle.xa_switch.proofs.settling.checks.each_has_desks.Given as goal
 
 abbrev pub invariant-loop-worker : goal.invariant-loop-worker
 invariant-loop-worker l =
-    (k : ℕ) (d : Served) → k < l.worker-index → HasDesks (get_or l.workers k d).manager.threads l.desks × ((get_or l.workers k d).manager.threads ≤ 8)
+    (k : ℕ) (d : Served) → k < l.worker-index
+    → HasDesks (get_or l.workers k d).manager.threads l.desks × ((get_or l.workers k d).manager.threads ≤ 8)

@@ -9,7 +9,11 @@ pub returns : goal.returns
 returns c =
     let items = c.self.inside.accounts.items in
     let a = c.index.result.now in
-    let within : c.args.place < length items = omega (arith, c.requires, length-map items (λ (b : Account). b.key), ap (λ h. length h.keys) c.self.view_is) in
-    c.stays_within.ensures ∙ ap (λ v. is_within (v +ℤ c.args.delta)) (sym (value_there items c.args.place a c.self.invariant.0 within c.index.ensures))
-    ∙ ap (λ k. is_within (value_of (from_entries {R = key_cmp} (value_entries items)) k +ℤ c.args.delta)) (sym (key_there items c.args.place a within c.index.ensures))
+    let within : c.args.place < length items =
+    omega (arith, c.requires, length-map items (λ (b : Account). b.key), ap (λ h. length h.keys) c.self.view_is) in
+    c.stays_within.ensures
+    ∙ ap (λ v. is_within (v +ℤ c.args.delta))
+    (sym (value_there items c.args.place a c.self.invariant.0 within c.index.ensures))
+    ∙ ap (λ k. is_within (value_of (from_entries {R = key_cmp} (value_entries items)) k +ℤ c.args.delta))
+    (sym (key_there items c.args.place a within c.index.ensures))
     ∙ ap (λ h. is_within (value_of h.values (key_at h c.args.place) +ℤ c.args.delta)) c.self.view_is

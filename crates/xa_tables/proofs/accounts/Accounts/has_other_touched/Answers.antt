@@ -9,8 +9,11 @@ returns c =
     let items = c.self.inside.accounts.items in
     let x = c.args.xid.now in
     let a = c.index.result.now in
-    let within : c.args.place < length items = omega (arith, c.requires, length-map items (λ (b : Account). b.key), ap (λ h. length h.keys) c.self.view_is) in
-    c.is_held_by_other.ensures ∙ ap (is_held_by_another x) (sym (at_own_key items c.args.place a c.self.invariant.0 within c.index.ensures))
+    let within : c.args.place < length items =
+    omega (arith, c.requires, length-map items (λ (b : Account). b.key), ap (λ h. length h.keys) c.self.view_is) in
+    c.is_held_by_other.ensures
+    ∙ ap (is_held_by_another x) (sym (at_own_key items c.args.place a c.self.invariant.0 within c.index.ensures))
     ∙ sym (other_any items x a.key c.self.invariant.0)
-    ∙ ap (has_other_touched (from_entries {R = touch_cmp} (hold_entries items)) x) (sym (key_there items c.args.place a within c.index.ensures))
+    ∙ ap (has_other_touched (from_entries {R = touch_cmp} (hold_entries items)) x)
+    (sym (key_there items c.args.place a within c.index.ensures))
     ∙ ap (λ h. has_other_touched h.sums x (key_at h c.args.place)) c.self.view_is

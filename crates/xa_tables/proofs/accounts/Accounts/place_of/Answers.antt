@@ -10,7 +10,8 @@ returns-clause-declared c =
     let k = c.args.key.now in
     let items = c.self.inside.accounts.items in
     ap is_some (c.get.ensures ∙ c.self.invariant.2 k) ∙ place_some k items
-    ∙ ap is_some (sym (get-from_entries key_cmp_total (value_entries items) k)) ∙ ap (λ h. is_some (finmap.get h.values k)) c.self.view_is
+    ∙ ap is_some (sym (get-from_entries key_cmp_total (value_entries items) k))
+    ∙ ap (λ h. is_some (finmap.get h.values k)) c.self.view_is
 
 pub returns-clause-within : goal.returns-clause-within
 returns-clause-within c = grind (arith, place_within)

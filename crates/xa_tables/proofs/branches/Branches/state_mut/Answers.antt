@@ -13,18 +13,23 @@ returns c =
       (
         refl,
         λ w m is.
-            let there : is_some (option_copied_mut c.get_mut.result) ≡ true = ap (λ r. is_some (option_copied_mut r)) is in
+            let there : is_some (option_copied_mut c.get_mut.result) ≡ true =
+            ap (λ r. is_some (option_copied_mut r)) is in
             let wrote = c.get_mut.follows.holds w in
-            let states = one_put xid_eq xid_cmp_total xid_cmp-IsAntisymmetric xid_eq-by_cmp old (c.get_mut.follows.lender w).entries x w (wrote.3 (sym (ap is_some value) ∙ there)).0
+            let states = one_put xid_eq xid_cmp_total xid_cmp-IsAntisymmetric xid_eq-by_cmp old
+            (c.get_mut.follows.lender w).entries x w (wrote.3 (sym (ap is_some value) ∙ there)).0
             ∙ ap (λ b. map.insert b.states x w) c.self.view_is in
             let room = wrote.6 ∙ ap (λ b. b.spare) c.self.view_is in (
               λ i. record { states = states i; spare = room i },
-              λ was. let same = states ∙ put_same c.args.self.now.states x w was in λ i. record { states = same i; spare = room i },
+              λ was. let same = states
+                  ∙ put_same c.args.self.now.states x w was in λ i. record { states = same i; spare = room i },
             ),
-        ap (λ h. record { states = map.from_entries h.entries; spare = spare h }) c.get_mut.follows.holds-at-none ∙ c.self.view_is,
+        ap (λ h. record { states = map.from_entries h.entries; spare = spare h }) c.get_mut.follows.holds-at-none
+            ∙ c.self.view_is,
       ),
       record {
         writes_back = tt;
-        value = value ∙ sym (get-lookup xid_eq xid_cmp_total xid_cmp-IsAntisymmetric xid_eq-by_cmp old x) ∙ ap (λ b. map.get b.states x) c.self.view_is;
+        value = value ∙ sym (get-lookup xid_eq xid_cmp_total xid_cmp-IsAntisymmetric xid_eq-by_cmp old x)
+            ∙ ap (λ b. map.get b.states x) c.self.view_is;
       },
     )

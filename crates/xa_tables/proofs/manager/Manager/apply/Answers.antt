@@ -1,6 +1,6 @@
 use Rattle.xa_base.proofs.{◌≤◌, rules, sym, ap, arith}
 use Rattle.xa_tables.proofs.Soundness.{live_after}
-use Rattle.xa_tables.specs.{Answer}
+use Rattle.xa_tables.specs.{TablesAndCode}
 use Rattle.xa_tables.proofs.ThreadLemmas.{places_paid}
 use Rattle.xa_tables.proofs.manager.Manager.apply.Goals as goal
 
@@ -10,7 +10,7 @@ invariant_of-self c =
     let t = c.args.thread in
     let op = c.args.op.now in
     let T = c.self.inside.inner.tables in
-    let stepped = sym (ap (λ (a : Answer). a.0) c.step-code.ensures.step) in
+    let stepped = sym (ap (λ (a : TablesAndCode). a.0) c.step-code.ensures.step) in
     let last : t ≤ n = omega (arith, ap (λ m. m.threads) c.self.view_is) in
     let paid = rw stepped at (places_paid n t op T (omega arith) last) in (
       search rules,

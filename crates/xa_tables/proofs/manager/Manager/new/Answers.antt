@@ -9,7 +9,9 @@ use Rattle.xa_tables.proofs.manager.Manager.new.Goals as goal
 pub invariant_of-result : goal.invariant_of-result
 invariant_of-result c =
     let opens = c.in_ok-inner.ensures.tables in
-    let none = none_free c.args.threads c.in_ok-inner.inner.tables (λ u. ap (λ (T : Tables). set.contains T.opened u) opens ∙ contains-empty nat_cmp u) in (
+    let none =
+    none_free c.args.threads c.in_ok-inner.inner.tables
+    (λ u. ap (λ (T : Tables). set.contains T.opened u) opens ∙ contains-empty nat_cmp u) in (
       search rules,
       omega (arith, c.branches_within.ensures, c.in_ok-inner.ensures.room),
       rw c.in_ok-inner.ensures.tables (live_opening _ (new_opens _ (accounts_new c.args.accounts.now))),

@@ -6,5 +6,6 @@ use Rattle.xa_tables.proofs.places.Places.get.Goals as goal
 pub returns : goal.returns
 returns c =
     c.copied.ensures ∙ c.get.ensures.value
-    ∙ sym (get-lookup key_eq key_cmp_total key_cmp-IsAntisymmetric key_eq-by_cmp c.self.inside.places.entries c.args.key.now)
+    ∙ sym
+    (get-lookup key_eq key_cmp_total key_cmp-IsAntisymmetric key_eq-by_cmp c.self.inside.places.entries c.args.key.now)
     ∙ ap (λ b. map.get b.places c.args.key.now) c.self.view_is

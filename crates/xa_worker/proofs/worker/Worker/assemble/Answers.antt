@@ -18,16 +18,14 @@ unset (suc (suc (suc (suc (suc (suc zero)))))) h = refl
 unset (suc (suc (suc (suc (suc (suc (suc zero))))))) h = refl
 unset (suc (suc (suc (suc (suc (suc (suc (suc k)))))))) h = absurd (omega arith)
 
-pub returns-clause-tied : goal.returns-clause-tied
-returns-clause-tied c =
-    rw (c.new-2.ensures, c.and.ensures, c.new.ensures, c.parts.invariant.0) (tied_new _ _ _ _ c.requires.requests c.requires.lanes c.requires.taken c.requires.sent)
-
 pub invariant_of-result : goal.invariant_of-result
 invariant_of-result c =
     let i = c.parts.invariant in
-    let room : c.args.manager.room ≡ c.parts.inside.room = c.requires.room ∙ ap (λ (p : Reserved). p.room) (sym c.parts.view_is) in
+    let room : c.args.manager.room ≡ c.parts.inside.room =
+    c.requires.room ∙ ap (λ (p : Reserved). p.room) (sym c.parts.view_is) in
     record {
-      tied = rw (c.new-2.ensures, c.and.ensures, c.new.ensures, i.0) (tied_new _ _ _ _ c.requires.requests c.requires.lanes c.requires.taken c.requires.sent);
+      tied = rw (c.new-2.ensures, c.and.ensures, c.new.ensures, i.0)
+          (tied_new _ _ _ _ c.requires.requests c.requires.lanes c.requires.taken c.requires.sent);
       room = rw i.0 (omega arith);
       marks = refl;
       ended = λ k h. unset k h ∙ ap (has_ended k) (sym c.requires.taken);

@@ -8,12 +8,21 @@ use Rattle.xa_worker.proofs.worker.Worker.end.Goals as goal
 pub new-requires-clause-served : goal.new-requires-clause-served
 new-requires-clause-served g c =
     let f = rw (← c.self.view_is) at c.requires in
-    served_by (working_of c.self.inside) _ c.self.invariant.tied f (c.end_all-ends.ensures ∙ ap (map but_full) c.into_senders.ensures)
+    served_by (working_of c.self.inside) _ c.self.invariant.tied f
+    (c.end_all-ends.ensures ∙ ap (map but_full) c.into_senders.ensures)
 
 pub returns-clause-same : goal.returns-clause-same
 returns-clause-same g c =
     let e = lanes_alike _ _ (c.end_all-ends.ensures ∙ ap (map but_full) c.into_senders.ensures) in
-    rw (c.new.ensures, ← c.self.view_is) (record { number = refl; first = refl; threads = refl; receiver = (refl, refl, refl, refl); lanes = e; journal = ([], sym (append-nil _)) })
+    rw (c.new.ensures, ← c.self.view_is)
+    (record {
+      number = refl;
+      first = refl;
+      threads = refl;
+      receiver = (refl, refl, refl, refl);
+      lanes = e;
+      journal = ([], sym (append-nil _));
+    })
 
 pub returns-clause-seat : goal.returns-clause-seat
 returns-clause-seat g c = served_keeps _ _ (returns-clause-same g c)

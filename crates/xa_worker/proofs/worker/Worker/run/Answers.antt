@@ -5,7 +5,8 @@ use Rattle.xa_worker.proofs.worker.Worker.run.Goals as goal
 pub loop-preserved : goal.loop-preserved
 loop-preserved g c = record {
   same = same-chain c.args.self c.loop.worker c.step.new.self c.loop.invariant.same c.step.ensures.same;
-  journal = extends-chain c.args.self.journal c.loop.worker.journal c.step.new.self.journal c.loop.invariant.journal (stepped-extends _ _ c.loop.worker c.step.result c.step.new.self c.step.ensures.step);
+  journal = extends-chain c.args.self.journal c.loop.worker.journal c.step.new.self.journal c.loop.invariant.journal
+      (stepped-extends _ _ c.loop.worker c.step.result c.step.new.self c.step.ensures.step);
   paced = paces_on g.P.Pace.told _ _ _ _ _ _ c.loop.invariant.paced c.step.ensures.paced;
   stored = λ s. c.step.ensures.stored (c.loop.invariant.stored s);
 }
@@ -13,13 +14,15 @@ loop-preserved g c = record {
 pub loop-preserved-in-Empty : goal.loop-preserved-in-Empty
 loop-preserved-in-Empty g c = record {
   same = same-chain c.args.self c.loop.worker c.step.new.self c.loop.invariant.same c.step.ensures.same;
-  journal = extends-chain c.args.self.journal c.loop.worker.journal c.step.new.self.journal c.loop.invariant.journal (stepped-extends _ _ c.loop.worker c.step.result c.step.new.self c.step.ensures.step);
+  journal = extends-chain c.args.self.journal c.loop.worker.journal c.step.new.self.journal c.loop.invariant.journal
+      (stepped-extends _ _ c.loop.worker c.step.result c.step.new.self c.step.ensures.step);
   paced = paces_on g.P.Pace.told _ _ _ _ _ _ c.loop.invariant.paced c.step.ensures.paced;
   stored = λ s. c.step.ensures.stored (c.loop.invariant.stored s);
 }
 
 pub returns-clause-paced : goal.returns-clause-paced
-returns-clause-paced g c = paces_on g.P.Pace.told _ _ _ _ _ _ c.loop.invariant.paced (unpaced g.P.Pace.told _ _ _ c.end.ensures.journal)
+returns-clause-paced g c =
+    paces_on g.P.Pace.told _ _ _ _ _ _ c.loop.invariant.paced (unpaced g.P.Pace.told _ _ _ c.end.ensures.journal)
 
 pub returns-clause-seat : goal.returns-clause-seat
 returns-clause-seat g c = c.end.ensures.seat ∙ stepped_keeps _ _ c.loop.invariant.same
@@ -40,9 +43,16 @@ returns-clause-same g c =
       number = b.number ∙ a.number;
       first = b.first ∙ a.first;
       threads = b.threads ∙ a.threads;
-      receiver = (b.receiver.0 ∙ a.receiver.0, b.receiver.1 ∙ a.receiver.1, b.receiver.2 ∙ a.receiver.2, b.receiver.3 ∙ a.receiver.3);
+      receiver = (
+        b.receiver.0 ∙ a.receiver.0,
+        b.receiver.1 ∙ a.receiver.1,
+        b.receiver.2 ∙ a.receiver.2,
+        b.receiver.3
+            ∙ a.receiver.3,
+      );
       lanes = b.lanes ∙ a.lanes;
-      journal = extends-chain c.args.self.journal c.loop.worker.journal c.end.result.journal c.loop.invariant.journal b.journal;
+      journal = extends-chain c.args.self.journal c.loop.worker.journal c.end.result.journal c.loop.invariant.journal
+          b.journal;
     }
 
 pub returns-clause-known : goal.returns-clause-known

@@ -1,0 +1,4 @@
+use Rattle.test_soak.proofs.visitor.try_commit.Goals as goal
+
+pub commit-requires-clause-may : goal.commit-requires-clause-may
+commit-requires-clause-may g c = (c.may_commit.ensures.0 c.if-not-may_commit.false).0

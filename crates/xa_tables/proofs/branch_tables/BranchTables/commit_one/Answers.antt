@@ -1,0 +1,5 @@
+use Rattle.xa_tables.proofs.SoundLemmas.{sound_gone}
+use Rattle.xa_tables.proofs.branch_tables.BranchTables.commit_one.Goals as goal
+
+pub invariant_of-self : goal.invariant_of-self
+invariant_of-self c = sound_gone _ _ _ _ _ _ _ c.remove-2.ensures.state c.post.ensures.others c.self.invariant

@@ -1,0 +1,6 @@
+use Rattle.xa_base.proofs.{refl}
+use Rattle.xa_tables.proofs.SoundLemmas.{sound_gone}
+use Rattle.xa_tables.proofs.branch_tables.BranchTables.forget.Goals as goal
+
+pub invariant_of-self : goal.invariant_of-self
+invariant_of-self c = sound_gone _ _ _ _ _ _ _ c.remove.ensures.state (λ y apart. refl) c.self.invariant
