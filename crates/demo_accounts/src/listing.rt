@@ -4,7 +4,6 @@ ghost use Rattle.xa_log_file.specs.declared.condition.Condition.TheVariants.{Los
 
 use crate::fault::Fault;
 use crate::lines::{name_of, write_lines};
-use crate::numbers::STORES;
 use std::alloc::{AllocError, Global};
 use std::io::Write;
 use xa_log::{CommitRecord, DecisionRecords};
@@ -14,13 +13,10 @@ use xa_words::{ManagerSet, Tran};
 // The stores that voted yes: `1, 3`.
 fn add_stores(alloc: Global, lines: &mut String, yes: &ManagerSet) -> Result<(), AllocError> {
     let mut before = " ";
-    for place in 0..STORES {
-        let store = place + 1;
-        if yes.contains(store) {
-            let text = format!(in alloc; "{before}{store}")?;
-            lines.push_str(&text)?;
-            before = ", ";
-        }
+    for store in yes.iter() {
+        let text = format!(in alloc; "{before}{store}")?;
+        lines.push_str(&text)?;
+        before = ", ";
     }
     Ok(())
 }

@@ -13,7 +13,6 @@ use xa_crew::{Client, CrewFault, run_clients_in_turns};
 use xa_desk::laws::desks_go_on;
 use xa_desk::{Desk, Idle};
 use xa_log::DecisionLog;
-use xa_switch::laws::settled_openings_are_whole;
 use xa_switch::{Again, OpenFault, Plan, Settled};
 
 /// A bank between its days: its tellers, each of which is a thread of control, and its stores.
@@ -74,7 +73,7 @@ impl<L: DecisionLog + Drop> Bank<L> {
         };
         match run_clients_in_turns(rt, alloc, plan, idlers) {
             Ok(run) => {
-                settled_openings_are_whole(&run.settled);
+                run.settled.is_settled();
                 let again = Again {
                     opening: plan.opening,
                     threads: plan.threads,

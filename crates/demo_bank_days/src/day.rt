@@ -20,7 +20,7 @@ use xa_crew::{Attended, Ran, Run};
 use xa_crew_again::{AgainFault, WithScan, run_clients_again};
 use xa_driver::Resolved;
 use xa_log::{DecisionLog, ReopenLog};
-use xa_switch::laws::{reopened_openings_go_on_from_what_was_left, settled_openings_are_whole};
+use xa_switch::laws::reopened_openings_go_on_from_what_was_left;
 use xa_switch::{Again, Settled};
 use xa_words::Code;
 use xa_work::WorkOutcome;
@@ -155,10 +155,10 @@ fn work_day<R: Threads + Wait + Copy + Send + 'static, L: ReopenLog + Drop + Sen
     ensures night { IfOk result (λ w. MayReopen w.settled (next_numbers again.now 1)) }
     ensures stopped { IfErr result (LeavesDay L.state L.knows L.loses settled again.now tellers.items) }
 {
-    settled_openings_are_whole(&settled);
+    settled.is_settled();
     reopened_openings_go_on_from_what_was_left();
     let Run { clients, settled } = run_clients_again(rt, alloc, settled, again, tellers, paces)?;
-    settled_openings_are_whole(&settled);
+    settled.is_settled();
     let wanting = want_memory(&clients);
     let evening = all_off_work(alloc, clients, evening);
     Ok(Worked {
@@ -191,11 +191,11 @@ fn pass_night<R: Wait, L: DecisionLog + Drop>(
         };
         return Ok((*day, night));
     }
-    settled_openings_are_whole(&settled);
+    settled.is_settled();
     reopened_openings_go_on_from_what_was_left();
     let again = next_numbers(day, 1);
     let night = run_night(rt, alloc, settled, &again, tellers)?;
-    settled_openings_are_whole(&night.settled);
+    night.settled.is_settled();
     Ok((again, night))
 }
 

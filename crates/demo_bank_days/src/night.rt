@@ -20,7 +20,7 @@ use xa_desk::{Desk, Idle};
 use xa_driver::{ResolveFault, Resolved, may_resolve, resolve};
 use xa_log::{DecisionLog, DecisionRecords};
 use xa_scan::Scan;
-use xa_switch::laws::{reopened_openings_go_on_from_what_was_left, settled_openings_are_whole};
+use xa_switch::laws::reopened_openings_go_on_from_what_was_left;
 use xa_switch::{Again, OpenFault, Settled};
 
 /// Why nothing was resolved of what a day left.
@@ -130,7 +130,7 @@ pub fn run_night<R: Wait, L: DecisionLog + Drop>(
     ensures tellers { IfOk result (λ n. n.tellers ≡ tellers) }
     ensures unsettled { IfErr result (IsUnsettledNight L.state L.knows tellers settled again.now) }
 {
-    settled_openings_are_whole(&settled);
+    settled.is_settled();
     reopened_openings_go_on_from_what_was_left();
     let Ok(mut resolvers) = Vec::with_capacity(alloc, 1) else {
         return Ok(Night {

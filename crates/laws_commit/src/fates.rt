@@ -153,7 +153,7 @@ pub fn commit_in_a_settled_opening<L: DecisionLog>(
 {
     one_outcome();
     endings_are_fates();
-    let _settled = settled.journal(1);
+    settled.is_settled();
 }
 
 /// In a settled opening of a plan the tables that a manager began with are those of the plan's accounts.

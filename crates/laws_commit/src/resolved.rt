@@ -168,5 +168,5 @@ pub fn commit_resolved_in_the_next_opening<L: DecisionLog, D: DecisionRecords>(
     next_openings_resolve();
     resolved_transactions_have_one_outcome();
     resolved_transactions_count_where_committed();
-    let _settled = next.journal(1);
+    next.is_settled();
 }

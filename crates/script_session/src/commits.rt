@@ -34,10 +34,8 @@ fn branches_of(alloc: Global, asked: &CommitAll<Gtrid>) -> Result<Vec<Branch>, A
     ensures { IfOk result (λ v. v.items ≡ branches_of asked.now) }
 {
     let mut branches = Vec::with_capacity(alloc, MOST_MANAGERS)?;
-    for before in 0..8 {
-        if asked.managers.contains(before + 1) {
-            branches.push_reserved(branch_at(asked, before + 1));
-        }
+    for manager in asked.managers.iter() {
+        branches.push_reserved(branch_at(asked, manager));
     }
     Ok(branches)
 }

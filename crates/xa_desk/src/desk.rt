@@ -93,6 +93,13 @@ impl Desk {
         let _inside = &self.book;
     }
 
+    /// What holds of every desk: it has no more managers than there may be. A law: nothing is done.
+    pub fn has_few_managers(&self)
+        ensures { length self.now.ledgers ≤ MOST_MANAGERS }
+    {
+        let _managers = self.book.managers();
+    }
+
     /// The thread of control, from 1.
     pub fn thread(&self) -> u32
         ensures thread { result ≡ self.now.thread }

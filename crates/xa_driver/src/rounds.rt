@@ -257,14 +257,5 @@ fn asked_yes(asks: &[Ask], manager: u32) -> bool
 pub(crate) fn yes_of(asks: &[Ask]) -> ManagerSet
     ensures { result ≡ yes_asked asks.now }
 {
-    ManagerSet::of([
-        asked_yes(asks, 1),
-        asked_yes(asks, 2),
-        asked_yes(asks, 3),
-        asked_yes(asks, 4),
-        asked_yes(asks, 5),
-        asked_yes(asks, 6),
-        asked_yes(asks, 7),
-        asked_yes(asks, 8),
-    ])
+    ManagerSet::from_fn(|manager| asked_yes(asks, manager))
 }

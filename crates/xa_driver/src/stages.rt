@@ -129,8 +129,7 @@ pub fn begin_prepare(
     ensures none { IfOk result (λ p. sent_count p.round ≡ 0) }
     ensures few { length desk.now.ledgers ≤ MOST_MANAGERS }
 {
-    // A desk has no more managers than a record has places for.
-    let _managers = desk.managers();
+    desk.has_few_managers();
     let asks = first_round(alloc, branches)?;
     let for_votes = Vec::with_capacity(alloc, branches.len())?;
     let for_endings = Vec::with_capacity(alloc, branches.len())?;

@@ -1,10 +1,10 @@
 //! The bytes of a record.
 ghost use Rattle.std.specs.Prelude.{◌≡◌, ◌==◌, ◌↔◌, length, map, IfSome, IsTrue, None, Some};
-ghost use Rattle.xa_words.specs.ManagerSet.{is_in, set_of};
 ghost use Rattle.xa_log.specs.declared.log.CommitRecord.{CommitRecord};
 ghost use Rattle.xa_log_file.specs.RecordBytes.{fields, spelling, yes_bytes, IsValid};
 
 use md5::{Digest, Md5};
+use std::array;
 use xa_base::MOST_MANAGERS;
 use xa_log::CommitRecord;
 use xa_words::{ManagerSet, Tran};
@@ -18,63 +18,27 @@ const FIELDS: usize = 5 + GTRID + MOST_MANAGERS;
 /// The bytes of a record: its fields, and their digest.
 pub(crate) const BODY: usize = FIELDS + md5::DIGEST_LEN;
 
-// Whether each manager voted yes.
-fn votes(yes: &ManagerSet) -> [bool; MOST_MANAGERS]
-    ensures { result ≡ set_of (is_in yes.now) }
-{
-    [
-        yes.contains(1),
-        yes.contains(2),
-        yes.contains(3),
-        yes.contains(4),
-        yes.contains(5),
-        yes.contains(6),
-        yes.contains(7),
-        yes.contains(8),
-    ]
-}
-
 // A byte for each manager: whether it voted yes.
 fn yes_bytes(yes: &ManagerSet) -> [u8; MOST_MANAGERS]
     ensures { result ≡ yes_bytes yes.now }
 {
-    let votes = votes(yes);
-    [
-        u8::from(votes[0]),
-        u8::from(votes[1]),
-        u8::from(votes[2]),
-        u8::from(votes[3]),
-        u8::from(votes[4]),
-        u8::from(votes[5]),
-        u8::from(votes[6]),
-        u8::from(votes[7]),
-    ]
+    array::from_fn(|place| u8::from(yes.contains(place as u32 + 1)))
 }
 
 // The set that these bytes tell of.
-#[tactic(auto, using(crate::proofs::Tables::eight_bits))]
 fn yes_of(bytes: &[u8]) -> ManagerSet
     requires { length bytes.now ≡ 8 }
     ensures { result ≡ map (λ b. b == 1) bytes.now }
 {
-    ManagerSet::of([
-        bytes[0] == 1,
-        bytes[1] == 1,
-        bytes[2] == 1,
-        bytes[3] == 1,
-        bytes[4] == 1,
-        bytes[5] == 1,
-        bytes[6] == 1,
-        bytes[7] == 1,
-    ])
+    ManagerSet::from_fn(|manager| bytes[manager as usize - 1] == 1)
 }
 
 /// Whether a file can have the record. It can have each that the program makes: this only shows it to the log.
 pub(crate) fn is_valid(decision: &CommitRecord) -> bool
     ensures { IsTrue result ↔ IsValid decision.now }
 {
+    decision.yes.tells_of_all();
     Tran::new(decision.tran.format(), decision.tran.gtrid()).is_ok()
-        && ManagerSet::of(votes(&decision.yes)) == decision.yes
 }
 
 // The bytes of a record's fields.

@@ -27,7 +27,6 @@ ghost use Rattle.xa_switch.specs.Fates.{IsOpenedWith, IsSumOver, first_of};
 ghost use Rattle.xa_switch.specs.Belonging.{DeskSeat, WorkerSeat, ComeFromOpenings, AreSomeOf, AreAll, desk_seats};
 ghost use Rattle.xa_switch.specs.Belonging.{worker_seats, openings_of, seat_of_desk, seat_of_worker};
 
-use crate::settling::settled::Settled;
 use laws_fates::value_is_sum;
 
 /// The desks and workers that an opening gives come from it.
@@ -65,13 +64,6 @@ pub fn settled_openings_are_of_their_setup()
         → AreOfOneOpening p ds ws → IsPermutation (map seat_of_desk ds) (desk_seats es)
         → IsPermutation (map seat_of_worker ws) (worker_seats vs) → AreAll es vs → IsOf p (settling es vs) }
 {}
-
-/// A settled opening is whole: every manager of it is there, and no other.
-pub fn settled_openings_are_whole(settled: &Settled)
-    ensures { IsWhole settled.now }
-{
-    let _opening = settled.opening;
-}
 
 /// An opening that was opened again from another has its managers, and each begins with what was left there.
 pub fn reopened_openings_go_on_from_what_was_left()

@@ -30,7 +30,7 @@ pub use Flags.{TMSUSPEND, bits_of, check_flags, go_together, has, has_only, how_
 pub use Orders.{Decides-key_eq, Decides-xid_eq, key_cmp-IsAntisymmetric, key_cmp_total, key_eq-by_cmp}
 pub use Orders.{xid_cmp-IsAntisymmetric, xid_cmp_total, xid_eq-by_cmp}
 pub use TranOrders.{Decides-tran_eq}
-pub use ManagerSet.{is_in, managers_of_set, set_of, with_manager}
+pub use ManagerSet.{is_in, managers_above, managers_of_set, set_of, with_manager}
 pub use Codes.{is_done, is_integrity, is_read_only, is_rolled_back}
 pub use Accounts.{are_accounts, are_apart}
 pub use declared.code.Code.{Code}

@@ -1,5 +1,5 @@
 -- Sets of managers as contracts see them: a truth for each of the managers 1 to 8, at place m - 1 for manager m.
-use Rattle.std.specs.Prelude.{ℕ, Bool, false, ◌||◌, ◌==◌, List, [], ◌∷◌, map, filter, get_or}
+use Rattle.std.specs.Prelude.{ℕ, ◌+◌, ◌-◌, Bool, false, ◌||◌, ◌==◌, List, [], ◌∷◌, map, filter, get_or}
 use Rattle.std.specs.List.{range_with_len}
 use Rattle.xa_base.specs.declared.limits.TheConstants.{MOST_MANAGERS}
 
@@ -18,3 +18,7 @@ with_manager m set = set_of (λ k. is_in set k || (m == k))
 -- its managers, by rising number
 abbrev pub managers_of_set : List Bool → List ℕ
 managers_of_set set = filter (is_in set) (range_with_len 1 MOST_MANAGERS)
+
+-- those above manager m
+abbrev pub managers_above : ℕ → List Bool → List ℕ
+managers_above m set = filter (is_in set) (range_with_len (m + 1) (MOST_MANAGERS - m))

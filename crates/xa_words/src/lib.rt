@@ -20,7 +20,7 @@ pub use flags::{
     TMRESUME, TMSTARTRSCAN, TMSUCCESS, TMSUSPEND, TMUSEASYNC, check_flags,
 };
 pub use key::Key;
-pub use manager_set::ManagerSet;
+pub use manager_set::{ManagerSet, Managers};
 pub use request::{Completion, Delta, EndHow, Op, Request, RmOp, StartHow};
 pub use tran::Tran;
 pub use xid::{Xid, XidFault};

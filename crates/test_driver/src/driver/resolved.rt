@@ -47,7 +47,6 @@ use xa_log::{DecisionRecords, MemoryLog};
 use xa_scan::Scan;
 use xa_switch::laws::{
     opened_pieces_come_from_their_opening, reopened_openings_go_on_from_what_was_left,
-    settled_openings_are_whole,
 };
 use xa_switch::{Again, Plan, Settled};
 use xa_words::{Code, Op};
@@ -245,7 +244,7 @@ pub(super) fn recover<R: Wait + Abort, L: DecisionRecords>(
 {
     opened_pieces_come_from_their_opening();
     reopened_openings_go_on_from_what_was_left();
-    settled_openings_are_whole(&settled);
+    settled.is_settled();
     let Reopened {
         mut desk,
         mut workers,
@@ -332,7 +331,7 @@ fn pass<R: Wait + Abort>(rt: &R, alloc: Global, settled: Settled, again: &Again)
 {
     opened_pieces_come_from_their_opening();
     reopened_openings_go_on_from_what_was_left();
-    settled_openings_are_whole(&settled);
+    settled.is_settled();
     let Reopened {
         desk,
         mut workers,

@@ -9,7 +9,7 @@ ghost use Rattle.xa_desk.specs.DeskViews.{sent_to, collected_from};
 ghost use Rattle.xa_switch.specs.Settled.{IsSettled, ledgers_in, find_thread, find_manager, sent, collected, journal};
 ghost use Rattle.xa_switch.specs.Settled.{value};
 ghost use Rattle.xa_switch.specs.Fates.{first_of, history};
-ghost use Rattle.xa_switch.specs.Reopening.{parts_of, find_ready, managers_in};
+ghost use Rattle.xa_switch.specs.Reopening.{IsWhole, parts_of, find_ready, managers_in};
 
 use crate::laws::settled_values_are_sums;
 use std::alloc::{AllocError, Global};
@@ -159,7 +159,7 @@ impl Model for Settled {
     ghost use Rattle.xa_tables.specs.Managers.{tables_code};
     ghost use Rattle.std.specs.Prelude.{map};
     ghost use Rattle.xa_switch.specs.Settled.{Settling, IsSettled};
-    ghost use Rattle.xa_switch.specs.Reopening.{IsWhole, parts_of};
+    ghost use Rattle.xa_switch.specs.Reopening.{IsWhole, IsWhole, parts_of};
 
     ghost Value = { Settling };
 
@@ -231,6 +231,15 @@ fn collected_in(ledgers: &[Ledger], manager: u32) -> &[(u32, Code)]
 }
 
 impl Settled {
+    /// What holds of every settled opening: what was sent, carried out and collected agrees, and each manager of it is
+    /// there, and no other. A law: nothing is done.
+    pub fn is_settled(&self)
+        ensures settled { IsSettled self.now }
+        ensures whole { IsWhole self.now }
+    {
+        let _inside = &self.opening;
+    }
+
     /// How many managers it has, 1 to 8.
     pub fn managers(&self) -> usize
         ensures managers { result ≡ managers_in self.now }

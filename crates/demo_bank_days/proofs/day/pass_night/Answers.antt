@@ -41,7 +41,7 @@ returns-clause-passed g c =
             numbers,
             rw numbers at is_night,
             same_stores c.reopened_openings_go_on_from_what_was_left.ensures s n.settled c.next_numbers-again.result
-                c.settled_openings_are_whole.ensures is_night.resolves.of_setup c.settled_openings_are_whole-2.ensures,
+                c.is_settled.ensures.whole is_night.resolves.of_setup c.is_settled-2.ensures.whole,
           )) c.in_ok-night.ensures.night;
       left =
           subst

@@ -19,7 +19,7 @@ returns-in-Some g c =
     let ran =
     rw given at c.in-Ok-run_clients_again_in_turns.ensures.ran in
     let is : run.clients.items ≡ c.pop.new.self.items ++ c.in-Some.attended ∷ [] = c.in-Some.ensures.items in
-    let whole = c.settled_openings_are_whole.ensures in
+    let whole = c.is_settled.ensures.whole in
     let goes_on = c.reopened_openings_go_on_from_what_was_left.ensures in
     record {
       night = night_law state knows s again r run.clients.items run.settled ran c.requires whole goes_on

@@ -12,7 +12,7 @@ returns g c =
     done.endings.items in
     let f : IsFinished k done = record { made = c.requires.made; told = refl } in
     let z : IsFinishedIn c.args.settled.now k done =
-    record { settled = c.journal-settled.ensures.settled; finished = f; grown = c.requires.grown } in
+    record { settled = c.is_settled.ensures.settled; finished = f; grown = c.requires.grown } in
     search (
       arith,
       f,

@@ -14,7 +14,7 @@ returns g c =
     c.requires.settled
     (record { made = c.finished_commits_are_cut_after_all.ensures k done f; grown = c.requires.grown })
     c.requires.few
-    (λ j d lt _. c.requires.own.each j d lt) c.journal-settled.ensures.settled
+    (λ j d lt _. c.requires.own.each j d lt) c.is_settled.ensures.settled
     (record { made = c.requires.trace; grown = c.requires.ended }) c.requires.continues c.requires.of c.requires.scan
     c.requires.log c.requires.later c.requires.reached in (
       c.resolved_transactions_have_one_outcome.ensures _ _ _ k _ done resolved f,

@@ -1,13 +1,11 @@
-use Rattle.xa_base.proofs.{◌≡◌, ◌≤◌, length, map, filter, vec_capacity, range_with_len}
-use Rattle.xa_words.specs.{is_in}
-use Rattle.script_session.specs.{branch_of_commit}
+use Rattle.xa_base.proofs.{◌≡◌, ◌≤◌, ◌+◌, ◌++◌, length, map, vec_capacity}
+use Rattle.script_session.specs.{branch_of_commit, branches_of}
 use Rattle.script_session.proofs.commits.branches_of.Given as goal
 
--- the branches at the first managers
-abbrev pub invariant-loop-before : goal.invariant-loop-before
-invariant-loop-before l = record {
-  so_far : l.branches.items ≡ map (branch_of_commit l.asked)
-      (filter (is_in l.asked.managers) (range_with_len 1 l.before));
-  few : length l.branches.items ≤ l.before;
+-- the branches so far and those at the managers to come are all
+abbrev pub invariant-loop-manager : goal.invariant-loop-manager
+invariant-loop-manager l = record {
+  all : l.branches.items ++ map (branch_of_commit l.asked) l.manager-iterator ≡ branches_of l.asked;
+  few : length l.branches.items + length l.manager-iterator ≤ 8;
   room : 8 ≤ vec_capacity l.branches;
 }

@@ -36,7 +36,7 @@ returns-clause-continues g c = λ m T first.
     c.settle_all-settled.ensures.of (reopening c.args.settled c.args.again.now) (c.open_again-desk.result.desk ∷ [])
     c.open_again-desk.result.workers c.open_again-desk.ensures.opened desks workers in
     c.reopened_openings_go_on_from_what_was_left.ensures c.args.settled c.settle_all-settled.result c.args.again.now m T
-    c.settled_openings_are_whole.ensures of first
+    c.is_settled.ensures.whole of first
 
 pub returns-clause-grown : goal.returns-clause-grown
 returns-clause-grown g c =
