@@ -87,8 +87,8 @@ def of_impl(head):
     of_trait, _, type = rest.strip().rpartition(" for ")
     arguments = [it for of in re.findall(r"<(.*)>", of_trait) for it in of.split(",")]
     # A drop is named by its type alone.
-    named = (type, *arguments) if of_trait == "Drop" else (type, of_trait, *arguments)
-    return "".join(spelled(it, own) for it in named)
+    named = (type,) if of_trait == "Drop" else (type, of_trait)
+    return "".join([*(spelled(it, own) for it in named), *(spelled_whole(it, own) for it in arguments)])
 
 
 def spelled(type, own):
@@ -100,6 +100,12 @@ def spelled(type, own):
         return "Slice" + spelled(type[1:-1], own)
     name = type.partition("<")[0].rpartition("::")[2]
     return "" if name in own else name
+
+
+def spelled_whole(type, own):
+    """How an argument of a trait is spelled in it: with its path, as IoError for io::Error."""
+    *path, last = type.strip().split("::")
+    return "".join(f"{it[:1].upper()}{it[1:]}" for it in path) + spelled(last, own)
 
 
 @dataclass(frozen=True)

@@ -1,8 +1,7 @@
 -- A set of managers by a test, and one with one more.
 use Rattle.xa_base.proofs.{◌≡◌, ℕ, zero, suc, ◌+◌, ◌-◌, ◌<◌, ◌≤◌, ◌==◌, ◌||◌, Bool, true, false, cond, List, [], ◌∷◌}
 use Rattle.xa_base.proofs.{length, filter, range_with_len, slice_set, get_or, refl, sym, ap, ◌∙◌, arith, or-false}
-use Rattle.xa_base.proofs.{or-true}
-use Rattle.xa_base.proofs.{eqb-true, cases_eq, inl, inr, get_or-set_same, get_or-set_other, length-set}
+use Rattle.xa_base.proofs.{or-true, eqb-true, cases_eq, inl, inr, get_or-set_same, get_or-set_other, length-set}
 use Rattle.xa_base.specs.{MOST_MANAGERS, IsUpTo}
 use Rattle.xa_words.specs.{is_in, managers_above, set_of, with_manager}
 
@@ -84,7 +83,7 @@ set_by set test whole same =
 -- the managers above m are m + 1, if it is in the set, and those above that
 pub managers_next : (m : ℕ) (set : List Bool) → m < MOST_MANAGERS
     → managers_above m set ≡ cond (is_in set (m + 1)) ((m + 1) ∷ managers_above (m + 1) set)
-        (managers_above (m + 1) set)
+    (managers_above (m + 1) set)
 managers_next m set low =
     let rest : MOST_MANAGERS - m ≡ suc (MOST_MANAGERS - (m + 1)) = omega (arith, low) in
     ap (λ n. filter (is_in set) (range_with_len (m + 1) n)) rest

@@ -21,6 +21,6 @@ loop-self-preserved c =
     record {
       low = omega (arith, c.loop-self-test.true);
       left =
-        ap (λ b. cond b ((m + 1) ∷ managers_above (m + 1) set) (managers_above (m + 1) set)) c.if-contains.ensures
-        ∙ sym (managers_next m set (omega (arith, c.loop-self-test.true))) ∙ c.loop-self.invariant.left;
+          ap (λ b. cond b ((m + 1) ∷ managers_above (m + 1) set) (managers_above (m + 1) set)) c.if-contains.ensures
+          ∙ sym (managers_next m set (omega (arith, c.loop-self-test.true))) ∙ c.loop-self.invariant.left;
     }
