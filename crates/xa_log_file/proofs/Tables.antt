@@ -85,6 +85,12 @@ pub put_together : (r : CommitRecord) → length r.tran.gtrid ≤ 64
 unfolding fields
 put_together r few = let padding = zeros_left (length r.tran.gtrid) few in search (arith, append_assoc, r.tran.gtrid)
 
+pub eight_numbers : (bytes : List ℕ) → length bytes ≡ 8
+    → bytes ≡ get_or bytes 0 0 ∷ get_or bytes 1 0 ∷ get_or bytes 2 0 ∷ get_or bytes 3 0 ∷ get_or bytes 4 0
+    ∷ get_or bytes 5 0 ∷ get_or bytes 6 0 ∷ get_or bytes 7 0 ∷ []
+eight_numbers (a ∷ b ∷ c ∷ d ∷ e ∷ f ∷ g ∷ h ∷ []) long = refl
+eight_numbers bytes long = absurd (let no : ⊥ = omega (arith, long) in no)
+
 pub eight_bits : (bytes : List ℕ) → length bytes ≡ 8
     → eqb (get_or bytes 0 0) 1 ∷ eqb (get_or bytes 1 0) 1 ∷ eqb (get_or bytes 2 0) 1 ∷ eqb (get_or bytes 3 0) 1 ∷ eqb
     (get_or bytes 4 0) 1 ∷ eqb
