@@ -11,6 +11,7 @@ use Rattle.xa_base.proofs.{map-set, set-get_or, map-map}
 use Rattle.std.proofs.lemmas.Nat.{from_be_bytes-to_be_bytes_4}
 use mir.ValLaws.{of_z_fits}
 use Rattle.xa_words.specs.{is_in, set_of, is_part, tran_bytes, new_tran, TranName, tran_eq}
+use Rattle.xa_words.proofs.ManagerSets.{eight}
 use Rattle.xa_log.specs.{CommitRecord, tran_cmp, Records, record_in, is_among}
 use Rattle.xa_log_file.specs.{fields, spelling, yes_bytes, IsValid, IsSlotOf, RecordTable, entries, records_of, LogSlot}
 use Rattle.xa_log_file.specs.{Free, Taken, Forgotten, tran_of_record, NoTransactionTwice, on_file, taken}
@@ -38,10 +39,8 @@ number_again z f =
     ap (cast_signed w32) (from_be_bytes-to_be_bytes_4 (cast_unsigned w32 z) (of_z_fits w32 z f).fits)
     ∙ to_z-of_z w32 z f
 
--- a list of eight is told by its places
-pub eight : (votes : List Bool) → length votes ≡ 8 → set_of (is_in votes) ≡ votes
-eight (a ∷ b ∷ c ∷ d ∷ e ∷ f ∷ g ∷ h ∷ []) long = refl
-eight votes long = absurd (let no : ⊥ = omega (arith, long) in no)
+eight_votes : (votes : List Bool) → length votes ≡ 8 → set_of (is_in votes) ≡ votes
+eight_votes votes long = sym (eight votes long)
 
 bit_again : (t : Bool) → eqb (cond t 1 0) 1 ≡ t
 bit_again t = search (arith, rules)
@@ -62,7 +61,7 @@ length-tran_bytes r valid = search (arith, length-append, length-replicate, part
 pub unspelled_again : (r : CommitRecord) → IsValid r → unspelled (spelling r) ≡ r
 unfolding spelling fields
 unspelled_again r valid =
-    search (arith, number_again, after_name, length-tran_bytes, bit_again, eight, append_assoc, take_at)
+    search (arith, number_again, after_name, length-tran_bytes, bit_again, eight_votes, append_assoc, take_at)
 
 pub length_again : (r : CommitRecord) → get_or (spelling r) 4 0 ≡ length r.tran.gtrid
 unfolding spelling fields
@@ -90,14 +89,6 @@ pub eight_numbers : (bytes : List ℕ) → length bytes ≡ 8
     ∷ get_or bytes 5 0 ∷ get_or bytes 6 0 ∷ get_or bytes 7 0 ∷ []
 eight_numbers (a ∷ b ∷ c ∷ d ∷ e ∷ f ∷ g ∷ h ∷ []) long = refl
 eight_numbers bytes long = absurd (let no : ⊥ = omega (arith, long) in no)
-
-pub eight_bits : (bytes : List ℕ) → length bytes ≡ 8
-    → eqb (get_or bytes 0 0) 1 ∷ eqb (get_or bytes 1 0) 1 ∷ eqb (get_or bytes 2 0) 1 ∷ eqb (get_or bytes 3 0) 1 ∷ eqb
-    (get_or bytes 4 0) 1 ∷ eqb
-    (get_or bytes 5 0) 1 ∷ eqb (get_or bytes 6 0) 1 ∷ eqb (get_or bytes 7 0) 1 ∷ []
-    ≡ map (λ b. eqb b 1) bytes
-eight_bits (a ∷ b ∷ c ∷ d ∷ e ∷ f ∷ g ∷ h ∷ []) long = refl
-eight_bits bytes long = absurd (let no : ⊥ = omega (arith, long) in no)
 
 -- what is read of a record's bytes
 pub read_name : (body : List ℕ) (r : CommitRecord) (z : ℤ) → IsValid r → body ≡ spelling r → 4 ≤ length body
