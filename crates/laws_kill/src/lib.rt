@@ -1,0 +1,15 @@
+//! That a crash of the whole process is a Shut: laws alone.
+//!
+//! A process may be killed at any moment, with threads in the middle of commits and requests in flight. Each manager's
+//! store then has a beginning of its journal, and no answer was sent that isn't in it. So all is as if one more thread
+//! had shut each manager at the place where its store ends, and each desk had then collected what was outstanding: a
+//! settled opening. What the laws of outcomes say of a settled opening that is opened again holds of such a crash.
+//!
+//! The program doesn't stand on this crate; a caller may cite its laws.
+#![tactic(auto)]
+
+mod crashes;
+mod stops;
+
+pub use crate::crashes::{crashes_are_settled, worked_crashes};
+pub use crate::stops::stopped_openings_are_crashes;
