@@ -86,7 +86,7 @@ module _ (p : CrashedManager) where
         ∙ ap (λ cs. cs ++ codes_in (shut_entry v p ∷ lost qs p)) coded
         ∙ ap (λ cs. codes (requests p.kept) p.first ++ (next v Shut (tables_kept p)).1 ∷ cs)
         (lost_refused qs
-            ∙ sym (late_codes (requests (lost qs p)) (next v Shut (tables_kept p)).0 (shut_then v (tables_kept p))))
+        ∙ sym (late_codes (requests (lost qs p)) (next v Shut (tables_kept p)).0 (shut_then v (tables_kept p))))
         ∙ sym (codes-append (requests p.kept) (shut_by v ∷ requests (lost qs p)) p.first)
         ∙ ap (λ (h : History). codes h p.first) (sym all_requests)
 

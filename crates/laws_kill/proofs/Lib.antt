@@ -6,3 +6,4 @@ pub mod Nothing
 pub mod Settling
 pub mod Worked
 pub mod Stopped
+pub mod Next

@@ -15,7 +15,6 @@ pub fn crashes_are_settled()
 
 /// A crash with one answered request and two that are lost is one, and its settled opening has these journals and
 /// answers.
-#[tactic(auto, using(crate::proofs::Worked::is_crash, crate::proofs::Worked::first_is, crate::proofs::Worked::second_is, crate::proofs::Worked::answers_are))]
 pub fn worked_crashes()
     ensures crash { IsCrash worked_setup worked_crash }
     ensures first { journal_at worked_crash 1 ≡ first_journal }

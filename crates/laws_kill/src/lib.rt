@@ -8,8 +8,13 @@
 //! The program doesn't stand on this crate; a caller may cite its laws.
 #![tactic(auto)]
 
+mod commits;
 mod crashes;
 mod stops;
 
+pub use crate::commits::{
+    commits_are_cut_where_they_were, killed_openings_end_by_the_file,
+    openings_over_stores_continue, restored_openings_end_by_the_file,
+};
 pub use crate::crashes::{crashes_are_settled, worked_crashes};
 pub use crate::stops::stopped_openings_are_crashes;
