@@ -2,7 +2,7 @@
 use Rattle.xa_base.proofs.{◌≡◌, cond, List, [], ◌∷◌, ◌++◌, map, Bool, true, false, not, ◌&&◌, ◌||◌, Option, None, Some}
 use Rattle.xa_base.proofs.{refl, sym, ap, ◌∙◌, append_assoc, append-nil, map-append, get-insert, get-remove, is_equal}
 use Rattle.xa_base.proofs.{ℕ, is_some, is_none, filter, list_any, keys_of, get-retain_keys, zero, suc, length, arith}
-use Rattle.xa_base.proofs.{length-append, from_entries, get-lookup, one_removed, insert, same_map, lookup}
+use Rattle.xa_base.proofs.{length-append, from_entries, get-lookup, one_removed, insert, same_map, lookup, kept_by_key}
 use Rattle.std.specs.FinMap.{get, remove, retain_keys}
 use Rattle.xa_words.specs.{TranName, tran_eq, Decides-tran_eq}
 use Rattle.xa_log.specs.{Records, record_in, is_among, tran_cmp}
@@ -31,6 +31,13 @@ pub removed : {X : Type 0} (es fs : List (TranName × X)) (t : TranName)
     → ((q : TranName) → lookup (tran_eq q) fs ≡ cond (tran_eq t q) None (lookup (tran_eq q) es))
     → from_entries {R = tran_cmp} fs ≡ remove (from_entries es) t
 removed = one_removed tran_eq tran_cmp_total tran_cmp-IsAntisymmetric tran_eq-by_cmp
+
+-- and once those of other transactions are
+pub only_those : {X : Type 0} (trans : List TranName) (es fs : List (TranName × X))
+    → fs ≡ filter (λ e. is_among trans e.0) es
+    → from_entries {R = tran_cmp} fs ≡ retain_keys (from_entries es) (is_among trans)
+only_those trans =
+    kept_by_key tran_eq tran_cmp_total tran_cmp-IsAntisymmetric tran_eq-by_cmp tran_alike (is_among trans)
 
 -- that one more be forgotten
 pub asks_one_more : (trans : List TranName) (to mid to' : LaneToWorker) (t : TranName) → AsksToForgetAll trans to mid

@@ -28,9 +28,11 @@ pub(crate) fn finish<T: Copy, R: Wait>(rt: &R, mut sender: Sender<T>) -> Ended<T
     for _ in rt.forever() {
         match sender.finish(rt) {
             Ok(end) => return end,
-            Err(back) => sender = back,
+            Err(back) => {
+                sender = back;
+                backoff.snooze();
+            }
         }
-        backoff.snooze();
     }
     unreachable!()
 }
