@@ -186,3 +186,8 @@ module _ {A : Type 0} (items got : List (Option A)) (k : ℕ) where
       → k < length items
   read_within None b same lookup is = let z : None ≡ Some b = is in cc
   read_within (Some a) b same lookup is = subst (λ (xs : List (Option A)). k < length xs) same lookup.3.0
+
+  -- both
+  pub read_slot : (r : Option (Bor (Option A))) (b : Bor (Option A)) → got ≡ items → IsItemAt got k r → r ≡ Some b
+      → (k < length items) × (item_at items k ≡ b.now)
+  read_slot r b same lookup is = (read_within r b same lookup is, read_some r b same lookup is)

@@ -6,7 +6,7 @@ use Rattle.sqlite_disk.specs.Disk.{MoreFaults}
 use Rattle.xa_words.specs.{XidName}
 use Rattle.sqlite_trees.specs.Tree.{Trees}
 use Rattle.sqlite_trees.specs.View.{View, IsClean, IsQuiet}
-use Rattle.xa_store_sqlite.specs.{Change, Image, IsInOrder, is_of_slot, item_at, unless_of, with_change}
+use Rattle.xa_store_sqlite.specs.{Change, Image, IsInOrder, IsSeen, is_of_slot, item_at, unless_of, with_change}
 use Rattle.xa_store_sqlite.specs.{without_changes}
 
 pub of_slot_within : (slot : ℕ) (cs : List (Option Change)) (p : ℕ) → is_of_slot slot (item_at cs p) ≡ true
@@ -62,6 +62,12 @@ all_cleared first new slot n so all =
     ∙ ap (λ cs. record first { changes = cs }) (all_to slot first.changes)
 
 -- ---- calls that follow one another
+
+-- where the store saw the rows of the image before, it sees those of the image after
+abbrev pub StaysSeen : {S : Type 0} (view : S → View) (recovers : S → Trees → Type 0) (old new : S) (was is : Bool)
+    (before after : Image) → Type 0
+StaysSeen view recovers old new was is before after =
+    IsSeen (view old) (recovers old) was before → IsSeen (view new) (recovers new) is after
 
 pub either : {A B P : Type 0} → A ⊎ B → (A → P) → (B → P) → P
 either (inl a) f g = f a

@@ -10,11 +10,13 @@ use Rattle.sqlite_store.specs.Listing.{all_shapes}
 use Rattle.sqlite_store.specs.Saved.{kept_schema}
 use Rattle.sqlite_trees.specs.declared.store.Shape.{Shape}
 use Rattle.sqlite_trees.specs.declared.store.Shape.TheVariants.{Absent, Table}
-use Rattle.sqlite_trees.specs.View.{View, IsClean}
+use Rattle.sqlite_trees.specs.Tree.{Trees}
+use Rattle.sqlite_trees.specs.View.{View, IsClean, IsQuiet}
 use Rattle.xa_slots.specs.{OnlyReads}
 use Rattle.xa_store_sqlite.specs.declared.fault.Table.{Table as Named}
 use Rattle.xa_store_sqlite.specs.declared.fault.Table.TheVariants.{Accounts, Branches, Changes, Store}
 use Rattle.xa_store_sqlite.specs.{AreTables, IsLaid, table_number}
+use Rattle.xa_store_sqlite.proofs.Changes.{clean_before}
 
 shape_there : (schema : List Wanted) → AreTables schema → (t : ℕ) → t < 4 → all_shapes schema t ≡ Table
 unfolding all_shapes
@@ -44,6 +46,12 @@ pub laid_on : (old new : View) → (IsClean new → IsClean old) → OnlyReads o
 laid_on old new before only laid clean t below =
     let was = laid (before clean) t below in
     (ap (λ (v : View). v.shape t) (only clean) ∙ was.0, ap (λ (v : View). v.committed_shape t) (only clean) ∙ was.1)
+
+pub laid_read : {S : Type 0} (view : S → View) (faults : S → ℕ) (recovers : S → Trees → Type 0) (shielded : S → Type 0)
+    (old new : S) → IsQuiet view faults recovers shielded old new → OnlyReads (view old) (view new) → IsLaid (view old)
+    → IsLaid (view new)
+laid_read view faults recovers shielded old new quiet =
+    laid_on (view old) (view new) (clean_before view faults recovers shielded old new new quiet)
 
 pub reads_on : (old mid new : View) → (IsClean new → IsClean mid) → OnlyReads old mid → OnlyReads mid new
     → OnlyReads old new

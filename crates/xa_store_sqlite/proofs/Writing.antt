@@ -2,7 +2,8 @@
 use Rattle.xa_base.proofs.{◌≡◌, ℕ, ℤ, Bool, true, false, cond, ◌||◌, List, [], ◌∷◌, ◌++◌, Option, None, Some, is_some}
 use Rattle.xa_base.proofs.{lookup, list_any, refl, ap, sym, ◌∙◌, arith, by_bool, or-false, is_missing, IsDistinct, ◌⊎◌}
 use Rattle.xa_base.proofs.{inl, inr, subst, or_from, or-true, append_assoc, at_mid, append-nil, IsDistinct-head}
-use Rattle.xa_base.proofs.{IsDistinct-tail}
+use Rattle.xa_base.proofs.{IsDistinct-tail, Bor, map, map-append}
+use Rattle.std.specs.Map.Iter.{deref}
 use Rattle.std.specs.FinMap as finmap
 use Rattle.sqlite_trees.specs.Tree.{Trees}
 use Rattle.sqlite_trees.specs.View.{View, IsClean}
@@ -132,6 +133,10 @@ both_off false true e = let z : true ≡ false = e in cc
 both_off true false e = let z : true ≡ false = e in cc
 both_off false false e = (refl, refl)
 
+off_both : (ys : List XidName) (x y : XidName) → list_any (xid_eq x) (ys ++ y ∷ []) ≡ false
+    → (list_any (xid_eq x) ys ≡ false) × (xid_eq x y ≡ false)
+off_both ys x y off = both_off _ _ (sym (off_last ys x y) ∙ off)
+
 pub one_removed_more : (ys : List XidName) (y : XidName) (first old new : Image) → RemovesAll ys first old → Lacks y new
     → DiffersAt y old new
     → RemovesAll (ys ++ y ∷ []) first new
@@ -139,10 +144,8 @@ one_removed_more ys y first old new so lacks differs = record {
   gone = λ x on.
       either (either_of (list_any (xid_eq x) ys) (xid_eq x y) (sym (off_last ys x y) ∙ on))
       (λ is. ap_lacks x is) (λ other. still x other.0 (so.gone x other.1));
-  states = λ x off. let both = both_off _ _ (sym (off_last ys x y) ∙ off) in differs.states x both.1
-      ∙ so.states x both.0;
-  sums = λ x k off. let both = both_off _ _ (sym (off_last ys x y) ∙ off) in differs.sums x k both.1
-      ∙ so.sums x k both.0;
+  states = λ x off. let b = off_both ys x y off in differs.states x b.1 ∙ so.states x b.0;
+  sums = λ x k off. let b = off_both ys x y off in differs.sums x k b.1 ∙ so.sums x k b.0;
   accounts = differs.accounts ∙ so.accounts;
 }
   where
@@ -175,10 +178,8 @@ one_put_more ys T y first old new so has differs = record {
       either (either_of (list_any (xid_eq x) ys) (xid_eq x y) (sym (off_last ys x y) ∙ on))
       (λ is. subst (λ z. HasOf z new T) (sym ((Decides-xid_eq x y).0 is)) has)
       (λ other. still x other.0 (so.own x other.1));
-  states = λ x off. let both = both_off _ _ (sym (off_last ys x y) ∙ off) in differs.states x both.1
-      ∙ so.states x both.0;
-  sums = λ x k off. let both = both_off _ _ (sym (off_last ys x y) ∙ off) in differs.sums x k both.1
-      ∙ so.sums x k both.0;
+  states = λ x off. let b = off_both ys x y off in differs.states x b.1 ∙ so.states x b.0;
+  sums = λ x k off. let b = off_both ys x y off in differs.sums x k b.1 ∙ so.sums x k b.0;
   accounts = differs.accounts ∙ so.accounts;
 }
   where
@@ -210,6 +211,12 @@ next_lacks told ys y zs rest T first old split next apart none so =
 pub next_split : (told ys : List XidName) (y : XidName) (zs rest : List XidName) → ys ++ rest ≡ told → rest ≡ y ∷ zs
     → (ys ++ y ∷ []) ++ zs ≡ told
 next_split told ys y zs rest split next = append_assoc ys (y ∷ []) zs ∙ ap (λ l. ys ++ l) (sym next) ∙ split
+
+-- and as the iterator goes
+pub so_far_more : (told : List XidName) (yielded : List (Bor XidName)) (x : Bor XidName) (zs rest : List XidName)
+    → map deref yielded ++ rest ≡ told → rest ≡ x.now ∷ zs → map deref (yielded ++ x ∷ []) ++ zs ≡ told
+so_far_more told yielded x zs rest split next =
+    ap (λ l. l ++ zs) (map-append deref yielded (x ∷ [])) ∙ next_split told (map deref yielded) x.now zs rest split next
 
 pub all_split : (told ys rest : List XidName) → ys ++ rest ≡ told → rest ≡ [] → ys ≡ told
 all_split told ys rest split none = sym (append-nil ys) ∙ ap (λ l. ys ++ l) (sym none) ∙ split

@@ -109,11 +109,8 @@ pub(crate) fn account_in(row: &Row) -> Result<(Key, u64), RowFault>
     ensures refused { OnErr result (IsAccount row.now → ⊥) }
     ensures alone { IsErrOf result Gap → ⊥ }
 {
-    let (ValueRef::Null, ValueRef::Text(name), ValueRef::Int(value)) = (
-        row.get(0),
-        row.get(1),
-        row.get(2),
-    ) else {
+    let cells = (row.get(0), row.get(1), row.get(2));
+    let (ValueRef::Null, ValueRef::Text(name), ValueRef::Int(value)) = cells else {
         return Err(RowFault::Form);
     };
     if row.len() != 3 {
@@ -165,11 +162,8 @@ pub(crate) fn change_in(row: &Row) -> Result<Change, RowFault>
     ensures slot { IfOk result (λ c. c.branch < MOST_BRANCHES) }
     ensures refused { OnErr result (IsChangeRow row.now → ⊥) }
 {
-    let (ValueRef::Null, ValueRef::Int(id), ValueRef::Int(amount)) = (
-        row.get(0),
-        row.get(1),
-        row.get(2),
-    ) else {
+    let cells = (row.get(0), row.get(1), row.get(2));
+    let (ValueRef::Null, ValueRef::Int(id), ValueRef::Int(amount)) = cells else {
         return Err(RowFault::Form);
     };
     if row.len() != 3 {
@@ -192,11 +186,8 @@ pub(crate) fn store_in(row: &Row) -> Result<(i64, i64), RowFault>
     ensures row { IfOk result (λ r. row.now ≡ store_row r.0 r.1) }
     ensures refused { OnErr result ((version number : ℤ) → row.now ≡ store_row version number → ⊥) }
 {
-    let (ValueRef::Null, ValueRef::Int(version), ValueRef::Int(number)) = (
-        row.get(0),
-        row.get(1),
-        row.get(2),
-    ) else {
+    let cells = (row.get(0), row.get(1), row.get(2));
+    let (ValueRef::Null, ValueRef::Int(version), ValueRef::Int(number)) = cells else {
         return Err(RowFault::Form);
     };
     if row.len() != 3 {

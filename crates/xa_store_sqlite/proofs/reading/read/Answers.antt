@@ -2,16 +2,14 @@ use Rattle.xa_base.proofs.{Err, ap, subst, sym, ◌∙◌, ℕ}
 use Rattle.sqlite_disk.specs.Disk.{MoreFaults}
 use Rattle.xa_slots.specs.{HasNoSlots}
 use Rattle.xa_store_sqlite.specs.{IsUnreadFor, table_number}
-use Rattle.xa_store_sqlite.proofs.Changes.{clean_before}
-use Rattle.xa_store_sqlite.proofs.Laid.{laid_on, table_laid}
+use Rattle.xa_store_sqlite.proofs.Laid.{laid_read, table_laid}
 use Rattle.xa_store_sqlite.proofs.Refused.{unread_for}
 use Rattle.xa_store_sqlite.proofs.reading.read.Goals as goal
 
 pub read-requires : goal.read-requires
 read-requires g c = record {
-  table = λ clean.
-      let v = g.S.Store.view c.args.tables.now.trees in
-      ap (λ n. v.shape n) c.number.ensures ∙ table_laid v c.args.table c.requires clean;
+  table = λ clean. ap (λ n. (g.S.Store.view c.args.tables.now.trees).shape n) c.number.ensures
+      ∙ table_laid (g.S.Store.view c.args.tables.now.trees) c.args.table c.requires clean;
 }
 
 pub returns-in-Ok-clause-rows : goal.returns-in-Ok-clause-rows
@@ -21,12 +19,8 @@ returns-in-Ok-clause-rows g c = λ clean.
 
 pub returns-in-Ok-clause-laid : goal.returns-in-Ok-clause-laid
 returns-in-Ok-clause-laid g c =
-    let view = g.S.Store.view in
-    let old = c.args.tables.now.trees in
-    let new = c.read.new.self.trees in
-    laid_on (view old) (view new)
-    (clean_before view g.S.Store.faults g.S.Store.recovers g.S.Store.is_shielded old new new c.read.ensures.quiet)
-    c.in-Ok.ensures.only c.requires
+    laid_read g.S.Store.view g.S.Store.faults g.S.Store.recovers g.S.Store.is_shielded c.args.tables.now.trees
+    c.read.new.self.trees c.read.ensures.quiet c.in-Ok.ensures.only c.requires
 
 pub returns-in-Err-clause-refused : goal.returns-in-Err-clause-refused
 returns-in-Err-clause-refused g c = λ clean.

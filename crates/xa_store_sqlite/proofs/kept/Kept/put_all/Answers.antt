@@ -4,7 +4,7 @@ use Rattle.xa_base.proofs.{[], ◌∷◌, ◌++◌, ◌∙◌, List, ap, map, ma
 use Rattle.xa_words.specs.{XidName}
 use Rattle.xa_store_sqlite.specs.{PutsAll, image_of}
 use Rattle.xa_store_sqlite.proofs.Changes.{quiet_on, quiet_same}
-use Rattle.xa_store_sqlite.proofs.Writing.{all_split, next_lacks, next_split, none_put, one_put_more}
+use Rattle.xa_store_sqlite.proofs.Writing.{all_split, next_lacks, none_put, one_put_more, so_far_more}
 use Rattle.xa_store_sqlite.proofs.kept.Kept.put_all.Goals as goal
 
 pub loop-xid-preserved : goal.loop-xid-preserved
@@ -22,8 +22,7 @@ loop-xid-preserved g c =
     rest_more deref c.loop-xid.xid-iterator c.next.new.self c.next.result c.in-Some.xid c.in-Some.is
     c.next.ensures.steps in
     record {
-      so_far = ap (λ l. l ++ c.next.new.self) more
-          ∙ next_split told ys y c.next.new.self c.loop-xid.xid-iterator i.so_far next;
+      so_far = so_far_more told c.loop-xid.yielded c.in-Some.xid c.next.new.self c.loop-xid.xid-iterator i.so_far next;
       seen = λ seen. c.in_ok-put.ensures.seen (i.seen seen);
       order = λ o none.
           c.in_ok-put.ensures.order (i.order o none)

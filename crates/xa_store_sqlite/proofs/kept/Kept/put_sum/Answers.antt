@@ -1,6 +1,6 @@
 use Rattle.xa_base.proofs.{◌≡◌, ◌∙◌, Some, ap, arith, of_z, rules, subst, sym, to_z, w64}
 use Rattle.xa_store_sqlite.specs.{Change, Image, PutsSum, image_of, with_change}
-use Rattle.xa_store_sqlite.proofs.Branches.{read_some, read_within}
+use Rattle.xa_store_sqlite.proofs.Branches.{read_slot}
 use Rattle.xa_store_sqlite.proofs.Changes.{order_same}
 use Rattle.xa_store_sqlite.proofs.Putting.{delta_is, order_change, puts_sum}
 use Rattle.xa_store_sqlite.proofs.kept.Kept.put_sum.Goals as goal
@@ -10,13 +10,10 @@ returns-clause-order g c = λ o there.
     let image = image_of c.args.self.now.mirror in
     let place = c.in-Some-Some.place in
     let change : Change = record { branch = c.args.slot; delta = c.in-Some-Some.delta } in
-    let within =
-    read_within image.changes c.deref.result.now place c.get-2.result c.in-Some-None.field-0 c.deref.ensures.value
+    let (within, held) =
+    read_slot image.changes c.deref.result.now place c.get-2.result c.in-Some-None.field-0 c.deref.ensures.value
     c.get-2.ensures.lookup c.in-Some-None.is in
-    let free =
-    read_some image.changes c.deref.result.now place c.get-2.result c.in-Some-None.field-0 c.deref.ensures.value
-    c.get-2.ensures.lookup c.in-Some-None.is
-    ∙ c.in-Some-None.field-0-is in
+    let free = held ∙ c.in-Some-None.field-0-is in
     order_same (ap (λ m. m.entries) c.set_change.ensures.slots) (ap (λ m. m.entries) c.set_change.ensures.places)
     c.in_ok-set_change.ensures.image
     (order_change image c.args.self.now.slots.entries c.args.self.now.places.entries o place change within free there)
@@ -27,13 +24,10 @@ returns-clause-sum g c = λ o x name none.
     let place = c.in-Some-Some.place in
     let key = c.args.key.now in
     let change : Change = record { branch = c.args.slot; delta = c.in-Some-Some.delta } in
-    let within =
-    read_within image.changes c.deref.result.now place c.get-2.result c.in-Some-None.field-0 c.deref.ensures.value
+    let (within, held) =
+    read_slot image.changes c.deref.result.now place c.get-2.result c.in-Some-None.field-0 c.deref.ensures.value
     c.get-2.ensures.lookup c.in-Some-None.is in
-    let free =
-    read_some image.changes c.deref.result.now place c.get-2.result c.in-Some-None.field-0 c.deref.ensures.value
-    c.get-2.ensures.lookup c.in-Some-None.is
-    ∙ c.in-Some-None.field-0-is in
+    let free = held ∙ c.in-Some-None.field-0-is in
     let known = sym c.get.ensures.value ∙ sym c.copied.ensures ∙ c.in-Some-Some.is-0 in
     let own : to_z w64 (of_z w64 c.args.amount) ≡ c.args.amount = search (arith, rules) in
     let amount =
