@@ -124,8 +124,6 @@ work_held t n x k d h T w opened j v =
     let T2 : Tables = (next t (Start x Fresh) T1).0 in
     let T3 : Tables = tables_after w.begun T2 in
     let T4 : Tables = (next t (Add k d) T3).0 in
-    let T5 : Tables = tables_after w.added T4 in
-    let T6 : Tables = (next t (End x Success) T5).0 in
     let first = unnamed_on w.before x T (opening_free x T opened) w.unnamed in
     let only1 : OnlyOne t x T1 = λ u apart. nobody_is x T1 first.apart u in
     let begins = begun_with t x T1 w.starts in
@@ -137,6 +135,8 @@ work_held t n x k d h T w opened j v =
     let none : (l : List ℕ) → map.get T3.sums (x, l) ≡ None =
     λ l. begun.sums l ∙ started l ∙ first.sums l ∙ opened.sums x l unprepared in
     let own : branch_of T3 t ≡ x = ap branch_in (begun.own ∙ begins.own) in
+    let T5 : Tables = tables_after w.added T4 in
+    let T6 : Tables = (next t (End x Success) T5).0 in
     let ending_work = left_at_work t x w.added T4 (own_request t x (Add k d) T3 begun.only) w.ending in
     let ends : SameSums x T5 T6 = leaves_sums x T5 (moves_of t (End x Success) T5) refl (λ l e is. cc) in
     let done = left_at_work t x w.after T6 (own_request t x (End x Success) T5 ending_work.only) w.ended in
