@@ -1,10 +1,10 @@
 -- The answers that a thread is owed are numbered from 0 on; and what it has collected once it has collected them all.
-use Rattle.xa_base.proofs.{◌≡◌, ℕ, zero, suc, ◌<◌, ◌≤◌, Bool, true, false, cond, not, ◌==◌, ◌||◌, nat_eq, List, []}
-use Rattle.xa_base.proofs.{◌∷◌, ◌++◌, Some, map, filter, length, slice_get, sym, refl, ap, ◌∙◌, arith, by_bool}
-use Rattle.xa_base.proofs.{All, All-append, All-filter, All-head, All-tail, AllByRecursion, all_from}
-use Rattle.xa_base.proofs.{IsDistinct, IsDistinct-head, IsDistinct-tail, eqb-true, eq-eqb, false_from_ne_true, got}
-use Rattle.xa_base.proofs.{filter-map, list_any, list_any-append, map-append, none_twice, or-true}
-use Rattle.xa_base.proofs.{slice_get_within, both_ways, ne_eqb, ◌↔◌}
+use Rattle.xa_base.proofs.{◌≡◌, ℕ, zero, suc, ◌<◌, ◌≤◌, Bool, true, false, cond, not, ◌==◌, ◌||◌, nat_eq, List, [], ◌∷◌}
+use Rattle.xa_base.proofs.{◌++◌, Some, map, filter, length, slice_get, sym, refl, ap, ◌∙◌, arith, by_bool, All}
+use Rattle.xa_base.proofs.{All-append, All-filter, All-head, All-tail, AllByRecursion, all_from, IsDistinct}
+use Rattle.xa_base.proofs.{IsDistinct-head, IsDistinct-tail, eqb-true, eq-eqb, false_from_ne_true, got, filter-map}
+use Rattle.xa_base.proofs.{list_any, list_any-append, map-append, none_twice, or-true, slice_get_within, both_ways}
+use Rattle.xa_base.proofs.{ne_eqb, ◌↔◌}
 use Rattle.std.proofs.lemmas.Map.Keys.{IsDistinct-cons}
 use Rattle.xa_words.specs.{Code, Op, Request}
 use Rattle.xa_desk.specs.{numbered}

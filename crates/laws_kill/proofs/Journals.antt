@@ -1,9 +1,8 @@
 -- The journal of a manager that was shut where its store ends: it follows its tables, leaves what is found in the
 -- store, and has of each thread all that the thread sent.
-use Rattle.xa_base.proofs.{◌≡◌, ◌≢◌, ℕ, zero, suc, ◌<◌, true, cond, ◌==◌, List, [], ◌∷◌, ◌++◌, Some}
-use Rattle.xa_base.proofs.{map, filter, drop, length, slice_get, sym, refl, ap, ◌∙◌, arith, append-nil, All, All-weaker}
-use Rattle.xa_base.proofs.{map-append, filter-append, drop_at, ne_eqb, eq-eqb, cases_eq, inl, inr, got_on}
-use Rattle.xa_base.proofs.{by_bool}
+use Rattle.xa_base.proofs.{◌≡◌, ◌≢◌, ℕ, zero, suc, ◌<◌, true, cond, ◌==◌, List, [], ◌∷◌, ◌++◌, Some, map, filter, drop}
+use Rattle.xa_base.proofs.{length, slice_get, sym, refl, ap, ◌∙◌, arith, append-nil, All, All-weaker, map-append}
+use Rattle.xa_base.proofs.{filter-append, drop_at, ne_eqb, eq-eqb, cases_eq, inl, inr, got_on, by_bool}
 use Rattle.xa_base.specs.{Begins}
 use Rattle.xa_words.specs.{Code, Op, Request, RmFail, Shut}
 use Rattle.xa_tables.specs.{History, Tables, TablesAndCode, next, codes, tables_after, of_thread, parted, reopened}

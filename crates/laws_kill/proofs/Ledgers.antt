@@ -1,7 +1,6 @@
 -- Ledgers once all is collected.
-use Rattle.xa_base.proofs.{◌≡◌, ℕ, zero, suc, ◌+◌, ◌-◌, ◌<◌, true, false, not, ◌&&◌, nat_le, List, [], ◌∷◌}
-use Rattle.xa_base.proofs.{length, filter, slice_index_or, refl, ap, ◌∙◌, arith, if◌then◌else◌, by_bool}
-use Rattle.xa_base.proofs.{same_begins}
+use Rattle.xa_base.proofs.{◌≡◌, ℕ, zero, suc, ◌+◌, ◌-◌, ◌<◌, true, false, not, ◌&&◌, nat_le, List, [], ◌∷◌, length}
+use Rattle.xa_base.proofs.{filter, slice_index_or, refl, ap, ◌∙◌, arith, if◌then◌else◌, by_bool, same_begins}
 use Rattle.xa_desk.specs.{LedgerView, HasGrown, HaveGrown, IsKnown, collected_from, is_collected, is_known, ledger}
 use Rattle.xa_desk.specs.{no_ledger, sent_to}
 use Rattle.xa_desk.proofs.Ledgers.{known_is}

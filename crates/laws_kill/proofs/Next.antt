@@ -1,16 +1,13 @@
 -- An opening over what the stores have is one that was opened again from the settled opening.
-use Rattle.xa_base.proofs.{◌≡◌, ℕ, ◌+◌, ◌-◌, Bool, List, Some, map, length, slice_get, range_with_len, sym}
-use Rattle.xa_base.proofs.{ap}
-use Rattle.xa_base.proofs.{◌∙◌, arith, got, mapped_some, got_map, length-range_with_len, slice_get_within, was_mapped}
+use Rattle.xa_base.proofs.{◌≡◌, ℕ, ◌+◌, ◌-◌, Bool, List, Some, map, length, slice_get, range_with_len, sym, ap, ◌∙◌}
+use Rattle.xa_base.proofs.{arith, got, mapped_some, got_map, length-range_with_len, slice_get_within, was_mapped}
 use Rattle.std.proofs.lemmas.List.{map-id}
 use Rattle.xa_tables.specs.{Tables}
-use Rattle.xa_switch.specs.{Again, IsOf, ManagerPart, Setup, Settling, find_manager, first_of, reopened_at}
-use Rattle.xa_switch.specs.{reopening}
+use Rattle.xa_switch.specs.{Again, IsOf, ManagerPart, Setup, Settling, find_manager, first_of, reopened_at, reopening}
 use Rattle.laws_kill.specs.{Crash, CrashedManager, IsCrash, as_settled, find_crashed, over_stores, shut_off}
 use Rattle.laws_kill.specs.{shutting_thread}
 use Rattle.laws_kill.proofs.Numbered.{find_from, from_range, number_at}
-use Rattle.laws_kill.proofs.Settling.{at_place, count, find_shut, found_all, is_within, managers_from}
-use Rattle.laws_kill.proofs.Settling.{many_managers}
+use Rattle.laws_kill.proofs.Settling.{at_place, count, find_shut, found_all, is_within, managers_from, many_managers}
 
 module _ (p : Setup) (c : Crash) (is : IsCrash p c) where
   -- the tables that a reopening of the settled opening begins with at a place are found in the store there

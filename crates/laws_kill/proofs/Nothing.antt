@@ -1,6 +1,5 @@
 -- Ledgers that aren't there, and threads of which nothing is.
-use Rattle.xa_base.proofs.{◌≡◌, ℕ, ◌≤◌, false, nat_eq, List, [], ◌∷◌, ◌++◌, Some, length, slice_get, sym, refl}
-use Rattle.xa_base.proofs.{ap}
+use Rattle.xa_base.proofs.{◌≡◌, ℕ, ◌≤◌, false, nat_eq, List, [], ◌∷◌, ◌++◌, Some, length, slice_get, sym, refl, ap}
 use Rattle.xa_base.proofs.{arith, if◌then◌else◌, All-nil, false_from_ne_true, none_twice}
 use Rattle.xa_tables.specs.{History, of_thread}
 use Rattle.xa_desk.specs.{LedgerView, collected_from, is_known, ledger, sent_to}

@@ -1,7 +1,7 @@
 -- Lists whose elements are numbered one after another, what is found in them, and searches in general.
-use Rattle.xa_base.proofs.{◌≡◌, ℕ, zero, suc, ◌+◌, ◌<◌, Bool, cond, ◌==◌, List, [], ◌∷◌, ◌++◌}
-use Rattle.xa_base.proofs.{Option, Some, None, option_map, map, slice_get, range_with_len, refl, ap, ◌∙◌}
-use Rattle.xa_base.proofs.{add-one, arith, by_bool, ne_eqb, eq-eqb, some_same}
+use Rattle.xa_base.proofs.{◌≡◌, ℕ, zero, suc, ◌+◌, ◌<◌, Bool, cond, ◌==◌, List, [], ◌∷◌, ◌++◌, Option, Some, None}
+use Rattle.xa_base.proofs.{option_map, map, slice_get, range_with_len, refl, ap, ◌∙◌, add-one, arith, by_bool, ne_eqb}
+use Rattle.xa_base.proofs.{eq-eqb, some_same}
 use Rattle.std.specs.List.{find}
 
 -- each choice of an option, with how it was

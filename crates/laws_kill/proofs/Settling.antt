@@ -1,28 +1,24 @@
 -- A crash is a settled opening: its threads and managers, one by one.
-use Rattle.xa_base.proofs.{◌≡◌, ◌≢◌, ℕ, zero, suc, ◌+◌, ◌-◌, ◌<◌, ◌≤◌, ◌↔◌, true, false, cond, ◌==◌, nat_eq}
-use Rattle.xa_base.proofs.{List, [], ◌∷◌, ◌++◌, Some, None, map, length, slice_get, option_map, sym}
-use Rattle.xa_base.proofs.{refl}
-use Rattle.xa_base.proofs.{ap, ◌∙◌, subst, arith, if◌then◌else◌, All, All-cons, All-contains, All-head, All-nil}
-use Rattle.xa_base.proofs.{all_map}
-use Rattle.xa_base.proofs.{cases_eq, inl, inr, ne_eqb, eq-eqb, eqb-true, found, got}
-use Rattle.xa_base.proofs.{mapped_some, got_map, length-map, length-range_with_len, list_any, map-append, map-map}
-use Rattle.xa_base.proofs.{none_twice}
-use Rattle.xa_base.proofs.{not_both, range_more, range_with_len, slice_get_past, slice_get_within, was_mapped}
-use Rattle.xa_base.proofs.{IsPermutation-refl, IsDistinct, or-false, get_or_from_slice_get}
+use Rattle.xa_base.proofs.{◌≡◌, ◌≢◌, ℕ, zero, suc, ◌+◌, ◌-◌, ◌<◌, ◌≤◌, ◌↔◌, true, false, cond, ◌==◌, nat_eq, List, []}
+use Rattle.xa_base.proofs.{◌∷◌, ◌++◌, Some, None, map, length, slice_get, option_map, sym, refl, ap, ◌∙◌, subst, arith}
+use Rattle.xa_base.proofs.{if◌then◌else◌, All, All-cons, All-contains, All-head, All-nil, all_map, cases_eq, inl, inr}
+use Rattle.xa_base.proofs.{ne_eqb, eq-eqb, eqb-true, found, got, mapped_some, got_map, length-map}
+use Rattle.xa_base.proofs.{length-range_with_len, list_any, map-append, map-map, none_twice, not_both, range_more}
+use Rattle.xa_base.proofs.{range_with_len, slice_get_past, slice_get_within, was_mapped, IsPermutation-refl, IsDistinct}
+use Rattle.xa_base.proofs.{or-false, get_or_from_slice_get}
 use Rattle.std.proofs.lemmas.Map.Keys.{IsDistinct-cons}
 use Rattle.xa_base.specs.{Begins, IsUpTo, MOST_MANAGERS}
 use Rattle.xa_words.specs.{Code, Op, Shut}
 use Rattle.xa_tables.specs.{Tables, of_thread, reopened}
-use Rattle.xa_desk.specs.{HaveGrown, LedgerView, collected_from, is_known, ledger, no_ledger, numbered}
-use Rattle.xa_desk.specs.{sent_to}
+use Rattle.xa_desk.specs.{HaveGrown, LedgerView, collected_from, is_known, ledger, no_ledger, numbered, sent_to}
 use Rattle.xa_desk.proofs.Ledgers.{known_true, nobody_sent}
 use Rattle.xa_worker.specs.{Entry, requests}
 use Rattle.xa_switch.specs.{Agree, FollowsTables, HasNumber, IsOf, IsSettled, ManagerPart, Setup, ThreadPart, answers}
-use Rattle.xa_switch.specs.{collected, find_manager, find_thread, journal, journal_in, last_in, ledgers_in}
-use Rattle.xa_switch.specs.{IsWhole, first_ledgers, ledgers_of, managers_in, reopened_at, sent}
-use Rattle.laws_kill.specs.{Crash, CrashedManager, IsAsSettled, IsCrash, IsCrashedManager, all_collected}
-use Rattle.laws_kill.specs.{as_settled, collected_all, find_crashed, journal_at, journal_of, journal_shut, kept_at}
-use Rattle.laws_kill.specs.{kept_of, ledgers_then, shut_entry, shut_ledger, shut_off, shutting_part, shutting_thread}
+use Rattle.xa_switch.specs.{collected, find_manager, find_thread, journal, journal_in, last_in, ledgers_in, IsWhole}
+use Rattle.xa_switch.specs.{first_ledgers, ledgers_of, managers_in, reopened_at, sent}
+use Rattle.laws_kill.specs.{Crash, CrashedManager, IsAsSettled, IsCrash, IsCrashedManager, all_collected, as_settled}
+use Rattle.laws_kill.specs.{collected_all, find_crashed, journal_at, journal_of, journal_shut, kept_at, kept_of}
+use Rattle.laws_kill.specs.{ledgers_then, shut_entry, shut_ledger, shut_off, shutting_part, shutting_thread}
 use Rattle.laws_kill.specs.{thread_collected, with_a_thread}
 use Rattle.laws_kill.proofs.Nothing.{nothing_before, unknown_collected, unknown_past, unknown_sent}
 use Rattle.laws_kill.proofs.Numbered.{AreNumberedFrom, by_option, find_changed, find_first, find_from, find_second}

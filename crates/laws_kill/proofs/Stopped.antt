@@ -1,10 +1,7 @@
 -- What is stopped between two steps is a crash.
-use Rattle.xa_base.proofs.{◌≡◌, ℕ, zero, suc, ◌+◌, ◌-◌, ◌≤◌, false, ◌==◌, nat_eq, List, [], ◌∷◌, ◌++◌}
-use Rattle.xa_base.proofs.{Option}
-use Rattle.xa_base.proofs.{Some, None, map, filter, take, length, slice_get, option_map, sym, refl, ap, ◌∙◌, subst}
-use Rattle.xa_base.proofs.{arith}
-use Rattle.xa_base.proofs.{All, all_map, All-contains, All-map, All-weaker, Contains, IsDistinct}
-use Rattle.xa_base.proofs.{begins_on, got}
+use Rattle.xa_base.proofs.{◌≡◌, ℕ, zero, suc, ◌+◌, ◌-◌, ◌≤◌, false, ◌==◌, nat_eq, List, [], ◌∷◌, ◌++◌, Option, Some}
+use Rattle.xa_base.proofs.{None, map, filter, take, length, slice_get, option_map, sym, refl, ap, ◌∙◌, subst, arith}
+use Rattle.xa_base.proofs.{All, all_map, All-contains, All-map, All-weaker, Contains, IsDistinct, begins_on, got}
 use Rattle.xa_base.proofs.{contains_on, eqb-true, filter-append, found, in_map, map-append, map-map, not_both}
 use Rattle.xa_base.proofs.{if◌then◌else◌, length-map, length-range_with_len, range_with_len, slice_get_within}
 use Rattle.std.specs.List.{find}
@@ -20,8 +17,8 @@ use Rattle.xa_switch.specs.{Setup, ThreadPart, answers, find_thread, ledgers_in}
 use Rattle.xa_switch.proofs.Pieces.{in_drained, in_part, placed}
 use Rattle.laws_kill.specs.{AgreeSoFar, AreStopped, CrashedManager, IsCrash, IsCrashedManager, LanesCarry}
 use Rattle.laws_kill.specs.{StoppedWorker, find_crashed, kept_of, stopped, stopped_manager, stopped_thread}
-use Rattle.laws_kill.proofs.Nothing.{nothing_before, nothing_collected, nothing_so_far, unknown_collected}
-use Rattle.laws_kill.proofs.Nothing.{unknown_past, unknown_sent}
+use Rattle.laws_kill.proofs.Nothing.{nothing_before, nothing_collected, nothing_so_far, unknown_collected, unknown_past}
+use Rattle.laws_kill.proofs.Nothing.{unknown_sent}
 use Rattle.laws_kill.proofs.Numbered.{by_option, find_below, find_changed, find_from, from_range}
 
 -- a beginning of a journal has the codes of its places

@@ -1,9 +1,7 @@
 -- The worked crash is one, and its settled opening has the journals and the answers that are written down.
-use Rattle.xa_base.proofs.{◌≡◌, ◌≢◌, ℕ, zero, suc, false, cond, nat_eq, List, [], ◌∷◌, Some}
-use Rattle.xa_base.proofs.{None}
-use Rattle.xa_base.proofs.{slice_get, sym, refl, ap, ◌∙◌, subst, arith, All-cons, All-nil, cases_eq, inl, inr}
-use Rattle.xa_base.proofs.{ne_eqb}
-use Rattle.xa_base.proofs.{length, none_twice, false_from_ne_true, if◌then◌else◌}
+use Rattle.xa_base.proofs.{◌≡◌, ◌≢◌, ℕ, zero, suc, false, cond, nat_eq, List, [], ◌∷◌, Some, None, slice_get, sym, refl}
+use Rattle.xa_base.proofs.{ap, ◌∙◌, subst, arith, All-cons, All-nil, cases_eq, inl, inr, ne_eqb, length, none_twice}
+use Rattle.xa_base.proofs.{false_from_ne_true, if◌then◌else◌}
 use Rattle.std.proofs.lemmas.Map.Keys.{IsDistinct-cons}
 use Rattle.xa_words.specs.{CloseRm, Code, Done, Op, OpenRm}
 use Rattle.xa_tables.specs.{IsOpening, next, of_thread, opening}
@@ -13,11 +11,10 @@ use Rattle.xa_desk.specs.{LedgerView, collected_from, is_known, ledger, sent_to}
 use Rattle.xa_desk.proofs.Ledgers.{known_is, nobody_sent}
 use Rattle.xa_worker.specs.{Entry, entry, requests}
 use Rattle.xa_switch.specs.{ThreadPart, answers, ledgers_in}
-use Rattle.laws_kill.specs.{AgreeSoFar, IsCrash, IsCrashedManager, find_crashed, journal_at, kept_at}
-use Rattle.laws_kill.specs.{kept_of, ledgers_then, worked_crash, worked_manager, worked_setup}
-use Rattle.laws_kill.specs.{worked_thread}
+use Rattle.laws_kill.specs.{AgreeSoFar, IsCrash, IsCrashedManager, find_crashed, journal_at, kept_at, kept_of}
+use Rattle.laws_kill.specs.{ledgers_then, worked_crash, worked_manager, worked_setup, worked_thread, first_answers}
+use Rattle.laws_kill.specs.{first_journal, first_ledger, second_journal, collected_all}
 use Rattle.laws_kill.proofs.Nothing.{nothing_collected, nothing_so_far}
-use Rattle.laws_kill.specs.{first_answers, first_journal, first_ledger, second_journal, collected_all}
 
 opens : IsOpening (opening [])
 opens = new_opens (opening []) (accounts_new [])

@@ -1,6 +1,5 @@
 use Rattle.xa_base.proofs.{◌≡◌, ◌≤◌, ◌∙◌, ◌∷◌, [], List, None, Option, Some, ap, arith, inl, inr, ints, length, of_z}
-use Rattle.xa_base.proofs.{subst}
-use Rattle.xa_base.proofs.{sym, to_z, to_z-of_z, ℤ, w64, Bor, err_from_is_err_and}
+use Rattle.xa_base.proofs.{subst, sym, to_z, to_z-of_z, ℤ, w64, Bor, err_from_is_err_and}
 use Rattle.std.specs.Slice.{IsItemAt}
 use Rattle.sqlite_disk.specs.Disk.{MoreFaults}
 use Rattle.sqlite_value.specs.Order.{Row}
