@@ -30,12 +30,6 @@ codes-append : (h g : History) (T : Tables) → codes (h ++ g) T ≡ codes h T +
 codes-append [] g T = refl
 codes-append (r ∷ h) g T = ap (λ cs. (next r.thread r.op T).1 ∷ cs) (codes-append h g (next r.thread r.op T).0)
 
-late_codes : (h : History) (T : Tables) → T.shut ≡ true → codes h T ≡ map (λ (r : Request). RmFail) h
-late_codes [] T s = refl
-late_codes (r ∷ h) T s =
-    ap (λ (a : TablesAndCode). a.1 ∷ codes h a.0) (next-shut r.thread r.op T s)
-    ∙ ap (λ cs. RmFail ∷ cs) (late_codes h T s)
-
 -- each of these entries was refused
 abbrev AreRefused : List Entry → Type 0
 AreRefused es = codes_in es ≡ map (λ (r : Request). RmFail) (requests es)
@@ -85,9 +79,15 @@ module _ (p : CrashedManager) where
         ∙ ap (λ cs. cs ++ codes_in (shut_entry v p ∷ lost qs p)) coded
         ∙ ap (λ cs. codes (requests p.kept) p.first ++ (next v Shut (tables_kept p)).1 ∷ cs)
         (lost_refused qs
-        ∙ sym (late_codes (requests (lost qs p)) (next v Shut (tables_kept p)).0 (shut_then v (tables_kept p))))
+        ∙ sym (late (requests (lost qs p)) (next v Shut (tables_kept p)).0 (shut_then v (tables_kept p))))
         ∙ sym (codes-append (requests p.kept) (shut_by v ∷ requests (lost qs p)) p.first)
         ∙ ap (λ (h : History). codes h p.first) (sym all_requests)
+      where
+        late : (h : History) (T : Tables) → T.shut ≡ true → codes h T ≡ map (λ (r : Request). RmFail) h
+        late [] T s = refl
+        late (r ∷ h) T s =
+            ap (λ (a : TablesAndCode). a.1 ∷ codes h a.0) (next-shut r.thread r.op T s)
+            ∙ ap (λ cs. RmFail ∷ cs) (late h T s)
 
     -- it follows its tables
     pub shut_follows : IsCrashedManager p → FollowsTables (shut_off v qs p)

@@ -17,7 +17,7 @@ use Rattle.xa_switch.specs.{Agree, FollowsTables, HasNumber, IsOf, IsSettled, Ma
 use Rattle.xa_switch.specs.{collected, find_manager, find_thread, journal, journal_in, last_in, ledgers_in, IsWhole}
 use Rattle.xa_switch.specs.{first_ledgers, ledgers_of, managers_in, reopened_at, sent}
 use Rattle.laws_kill.specs.{Crash, CrashedManager, IsAsSettled, IsCrash, IsCrashedManager, all_collected, as_settled}
-use Rattle.laws_kill.specs.{collected_all, find_crashed, journal_at, journal_of, journal_shut, kept_at, kept_of}
+use Rattle.laws_kill.specs.{collected_all, find_crashed, journal_at, journal_of, journal_shut, kept_at, kept_in_store}
 use Rattle.laws_kill.specs.{ledgers_then, shut_entry, shut_ledger, shut_off, shutting_part, shutting_thread}
 use Rattle.laws_kill.specs.{thread_collected, with_a_thread}
 use Rattle.laws_kill.proofs.Nothing.{nothing_before, unknown_collected, unknown_past, unknown_sent}
@@ -201,7 +201,7 @@ module _ (p : Setup) (c : Crash) (is : IsCrash p c) where
   carried t other m =
       by_option
       (λ o. find_crashed m c.managers ≡ o
-      → Begins (of_thread t (requests (kept_of o))) (numbered t 0 (sent_to (ledgers_then c t) m))
+      → Begins (of_thread t (requests (kept_in_store o))) (numbered t 0 (sent_to (ledgers_then c t) m))
       → of_thread t (requests (journal_of v c.threads o)) ≡ numbered t 0 (sent_to (ledgers_then c t) m))
       (find_crashed m c.managers)
       (λ e _ _. sym (ap (numbered t 0) (unknown_sent (ledgers_then c t) m (unknown_none t m e))))
@@ -216,7 +216,7 @@ module _ (p : Setup) (c : Crash) (is : IsCrash p c) where
   told : (t m : ℕ) → All (λ q. slice_get (answers t (js m)) q.0 ≡ Some q) (collected_from (ledgers_then c t) m)
   told t m =
       by_option
-      (λ o. All (λ q. slice_get (answers t (kept_of o)) q.0 ≡ Some q) (collected_from (ledgers_then c t) m)
+      (λ o. All (λ q. slice_get (answers t (kept_in_store o)) q.0 ≡ Some q) (collected_from (ledgers_then c t) m)
       → All (λ q. slice_get (answers t (journal_of v c.threads o)) q.0 ≡ Some q)
       (collected_from (ledgers_then c t) m))
       (find_crashed m c.managers) (λ _ all. all)
@@ -251,7 +251,7 @@ module _ (p : Setup) (c : Crash) (is : IsCrash p c) where
   shutting_agrees m =
       let at : List LedgerView = map (shut_ledger v) c.managers in
       by_option
-      (λ o. find_crashed m c.managers ≡ o → of_thread v (requests (kept_of o)) ≡ []
+      (λ o. find_crashed m c.managers ≡ o → of_thread v (requests (kept_in_store o)) ≡ []
       → Agree v (sent_to at m) (collected_from at m) (journal_of v c.threads o))
       (find_crashed m c.managers)
       (λ e _ _.

@@ -16,7 +16,7 @@ use Rattle.xa_worker.specs.{Entry, IsTiedWorker, LeavesABeginning, WorkerView, c
 use Rattle.xa_switch.specs.{Setup, ThreadPart, answers, find_thread, ledgers_in}
 use Rattle.xa_switch.proofs.Pieces.{in_drained, in_part, placed}
 use Rattle.laws_kill.specs.{AgreeSoFar, AreStopped, CrashedManager, IsCrash, IsCrashedManager, LanesCarry}
-use Rattle.laws_kill.specs.{StoppedWorker, find_crashed, kept_of, stopped, stopped_manager, stopped_thread}
+use Rattle.laws_kill.specs.{StoppedWorker, find_crashed, kept_in_store, stopped, stopped_manager, stopped_thread}
 use Rattle.laws_kill.proofs.Nothing.{nothing_before, nothing_collected, nothing_so_far, unknown_collected, unknown_past}
 use Rattle.laws_kill.proofs.Nothing.{unknown_sent}
 use Rattle.laws_kill.proofs.Numbered.{by_option, find_below, find_changed, find_from, from_range}
@@ -163,13 +163,14 @@ module _ (p : Setup) (ds : List DeskView) (ws : List StoppedWorker) (is : AreSto
 
   -- of a thread that isn't there
   no_desk : (t m : ℕ) → desk_at t ≡ None
-      → AgreeSoFar t (sent_to [] m) (collected_from [] m) (kept_of (option_map stopped_manager (worker_at m)))
+      → AgreeSoFar t (sent_to [] m) (collected_from [] m) (kept_in_store (option_map stopped_manager (worker_at m)))
   no_desk t m none =
       subst
-      (λ (x : List Op × List (ℕ × Code)). AgreeSoFar t x.0 x.1 (kept_of (option_map stopped_manager (worker_at m))))
+      (λ (x : List Op × List (ℕ × Code)). AgreeSoFar t x.0 x.1
+      (kept_in_store (option_map stopped_manager (worker_at m))))
       (λ i. (sym (nobody_sent m) i, sym (nothing_collected m) i))
-      (nothing_so_far t (kept_of (option_map stopped_manager (worker_at m)))
-      (by_option (λ o. of_thread t (requests (kept_of (option_map stopped_manager o))) ≡ []) (worker_at m)
+      (nothing_so_far t (kept_in_store (option_map stopped_manager (worker_at m)))
+      (by_option (λ o. of_thread t (requests (kept_in_store (option_map stopped_manager o))) ≡ []) (worker_at m)
       (λ _. refl)
       (λ s e.
       let begins = kept_begins t s.worker s.found s.leaves in
@@ -220,19 +221,20 @@ module _ (p : Setup) (ds : List DeskView) (ws : List StoppedWorker) (is : AreSto
   agree : (t m : ℕ)
       → AgreeSoFar t (sent_to (ledgers_in (option_map stopped_thread (desk_at t))) m)
       (collected_from (ledgers_in (option_map stopped_thread (desk_at t))) m)
-      (kept_of (option_map stopped_manager (worker_at m)))
+      (kept_in_store (option_map stopped_manager (worker_at m)))
   agree t m =
       by_option
       (λ D.
       AgreeSoFar t (sent_to (ledgers_in (option_map stopped_thread D)) m)
       (collected_from (ledgers_in (option_map stopped_thread D)) m)
-      (kept_of (option_map stopped_manager (worker_at m))))
+      (kept_in_store (option_map stopped_manager (worker_at m))))
       (desk_at t) (no_desk t m)
       (λ d e.
       let (among, its) = found (λ (x : DeskView). x.thread == t) ds d e in
       let own = eqb-true d.thread t its in
       by_option
-      (λ W. AgreeSoFar t (sent_to d.ledgers m) (collected_from d.ledgers m) (kept_of (option_map stopped_manager W)))
+      (λ W. AgreeSoFar t (sent_to d.ledgers m) (collected_from d.ledgers m)
+      (kept_in_store (option_map stopped_manager W)))
       (worker_at m) (no_worker t m d among)
       (λ s at.
       let (among_workers, its_number) = found (λ (u : StoppedWorker). u.worker.number == m) ws s at in
@@ -267,5 +269,5 @@ module _ (p : Setup) (ds : List DeskView) (ws : List StoppedWorker) (is : AreSto
         });
     agree = λ t m.
         subst (λ (x : List LedgerView × List Entry). AgreeSoFar t (sent_to x.0 m) (collected_from x.0 m) x.1)
-        (λ i. (sym (ap ledgers_in (find_desk t)) i, sym (ap kept_of (find_worker m)) i)) (agree t m);
+        (λ i. (sym (ap ledgers_in (find_desk t)) i, sym (ap kept_in_store (find_worker m)) i)) (agree t m);
   }

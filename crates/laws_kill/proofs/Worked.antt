@@ -11,7 +11,7 @@ use Rattle.xa_desk.specs.{LedgerView, collected_from, is_known, ledger, sent_to}
 use Rattle.xa_desk.proofs.Ledgers.{known_is, nobody_sent}
 use Rattle.xa_worker.specs.{Entry, entry, requests}
 use Rattle.xa_switch.specs.{ThreadPart, answers, ledgers_in}
-use Rattle.laws_kill.specs.{AgreeSoFar, IsCrash, IsCrashedManager, find_crashed, journal_at, kept_at, kept_of}
+use Rattle.laws_kill.specs.{AgreeSoFar, IsCrash, IsCrashedManager, find_crashed, journal_at, kept_at, kept_in_store}
 use Rattle.laws_kill.specs.{ledgers_then, worked_crash, worked_manager, worked_setup, worked_thread, first_answers}
 use Rattle.laws_kill.specs.{first_journal, first_ledger, second_journal, collected_all}
 use Rattle.laws_kill.proofs.Nothing.{nothing_collected, nothing_so_far}
@@ -34,7 +34,7 @@ no_manager m not_one not_two =
 kept_nothing : (m : ℕ) → m ≢ 1 → kept_at worked_crash m ≡ []
 kept_nothing m not_one = elim (cases_eq m 2) [
   | inl two ↦ ap (kept_at worked_crash) two
-  | inr not_two ↦ ap kept_of (no_manager m not_one not_two)
+  | inr not_two ↦ ap kept_in_store (no_manager m not_one not_two)
 ]
 
 kept_other : (t m : ℕ) → t ≢ 1 → of_thread t (requests (kept_at worked_crash m)) ≡ []

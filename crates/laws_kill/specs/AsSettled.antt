@@ -131,5 +131,5 @@ abbrev pub over_stores : Crash → Again → List Bool → Setup
 over_stores c again flags = setup again flags (map (λ p. p.found) c.managers)
 
 -- nothing was requested in it
-abbrev pub IsUntouched : Settling → Type 0
-IsUntouched s = (m : ℕ) → history s m ≡ []
+abbrev pub HasNoRequests : Settling → Type 0
+HasNoRequests s = (m : ℕ) → history s m ≡ []

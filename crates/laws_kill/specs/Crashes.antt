@@ -36,12 +36,12 @@ abbrev pub find_crashed : ℕ → List CrashedManager → Option CrashedManager
 find_crashed m managers = find (λ p. p.number == m) managers
 
 -- what its store has of its journal, nothing where there is no such manager
-abbrev pub kept_of : Option CrashedManager → List Entry
-kept_of None = []
-kept_of (Some p) = p.kept
+abbrev pub kept_in_store : Option CrashedManager → List Entry
+kept_in_store None = []
+kept_in_store (Some p) = p.kept
 
 abbrev pub kept_at : Crash → ℕ → List Entry
-kept_at c m = kept_of (find_crashed m c.managers)
+kept_at c m = kept_in_store (find_crashed m c.managers)
 
 -- the ledgers that thread t had, nothing where there is no such thread
 abbrev pub ledgers_then : Crash → ℕ → List LedgerView

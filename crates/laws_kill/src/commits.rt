@@ -21,7 +21,7 @@ ghost use Rattle.laws_commit.specs.Resolution.{OnlyResolves, commits, resolves, 
 ghost use Rattle.xa_log_file.specs.Memory.{HasRecordsAndPerhaps};
 ghost use Rattle.xa_log_file.specs.Slots.{HasRecords};
 ghost use Rattle.laws_kill.specs.Crashes.{Crash, IsCrash, ledgers_then};
-ghost use Rattle.laws_kill.specs.AsSettled.{IsUntouched, as_settled, over_stores};
+ghost use Rattle.laws_kill.specs.AsSettled.{HasNoRequests, as_settled, over_stores};
 
 use crate::crashes::crashes_are_settled;
 use laws_commit::{presumed_transactions_count_by_the_log, presumed_transactions_have_one_outcome};
@@ -78,7 +78,7 @@ pub fn restored_openings_end_by_the_file()
     ensures { (p : Setup) (c : Crash) (restored next : Settling) (first again : Again) (flags : List Bool)
         (k : CommitCall) (q : ResolveCall) (records forgotten : Records) (file : List ℕ) → IsCrash p c → IsCut k
         → HaveGrown k.new (ledgers_then c k.thread) → length k.desk.ledgers ≤ MOST_MANAGERS
-        → AskedAreLeft k (as_settled c) → IsSettled restored → IsWhole restored → IsUntouched restored
+        → AskedAreLeft k (as_settled c) → IsSettled restored → IsWhole restored → HasNoRequests restored
         → IsOf (over_stores c first flags) restored → IsSettled next → IsUseIn next (resolves q)
         → IsOf (reopening restored again) next → IsScanOf restored q.scan
         → HasRecordsAndPerhaps records forgotten file → HasRecords q.records file
