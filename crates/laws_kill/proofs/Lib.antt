@@ -7,3 +7,5 @@ pub mod Settling
 pub mod Worked
 pub mod Stopped
 pub mod Next
+pub mod InTurn
+pub mod Worths

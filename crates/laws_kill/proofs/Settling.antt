@@ -167,7 +167,7 @@ module _ (p : Setup) (c : Crash) (is : IsCrash p c) where
       find_changed (thread_collected js) (λ (q : ThreadPart). q.thread) (λ (q : ThreadPart). q.thread) (λ _. refl) t
       c.threads
 
-  lists : (t : ℕ) → t ≢ v → ledgers_of (as_settled c) t ≡ all_collected js t 1 (ledgers_then c t)
+  pub lists : (t : ℕ) → t ≢ v → ledgers_of (as_settled c) t ≡ all_collected js t 1 (ledgers_then c t)
   lists t other =
       by_option
       (λ o. find_thread t c.threads ≡ o → ledgers_of (as_settled c) t ≡ all_collected js t 1 (ledgers_in o))
@@ -187,7 +187,7 @@ module _ (p : Setup) (c : Crash) (is : IsCrash p c) where
       ∙ ap (λ u. all_collected js u 1 q.ledgers) own)
       refl
 
-  own_lists : ledgers_of (as_settled c) v ≡ map (shut_ledger v) c.managers
+  pub own_lists : ledgers_of (as_settled c) v ≡ map (shut_ledger v) c.managers
   own_lists =
       ap ledgers_in
       (find_second (λ (q : ThreadPart). q.thread == v) (map (thread_collected js) c.threads)

@@ -2,6 +2,8 @@ pub mod Crashes
 pub mod AsSettled
 pub mod Worked
 pub mod Stops
+pub mod Openings
+pub mod Balances
 -- The words of this crate, by its name.
 pub use Crashes.{AgreeSoFar, Crash, CrashedManager, IsCrash, IsCrashedManager, find_crashed, kept_at, kept_in_store}
 pub use Crashes.{ledgers_then}
@@ -11,3 +13,7 @@ pub use AsSettled.{shutting_thread, tables_kept, thread_collected, with_a_thread
 pub use Worked.{first_answers, first_journal, first_ledger, second_journal, worked_crash, worked_ledger, worked_manager}
 pub use Worked.{worked_setup, worked_thread}
 pub use Stops.{AreStopped, LanesCarry, StoppedWorker, stopped, stopped_manager, stopped_thread}
+pub use Openings.{AreOpenedInTurn, AreReadOfAllLogs, EndedOpening, EndsInOrder, FollowEachOther, HowEnded, IsEndOf}
+pub use Openings.{IsEndedOpening, IsLeftToResolves, IsOpenedOver, IsThere, LastResolves, NextIsOpenedOver, WasBegunIn}
+pub use Openings.{as_opening, ledgers_at_end, settled_as, tables_found, with_commit}
+pub use Balances.{AreDeclaredAt, AreLegsOfAll, ComesOutInTurn}

@@ -8,13 +8,23 @@
 //! The program doesn't stand on this crate; a caller may cite its laws.
 #![tactic(auto)]
 
+mod balances;
 mod commits;
 mod crashes;
+mod openings;
 mod stops;
 
+pub use crate::balances::{
+    killed_branches_come_out_by_the_log, killed_openings_are_worth_what_was_recorded,
+    killed_openings_conserve_the_worth,
+};
 pub use crate::commits::{
     commits_are_cut_where_they_were, killed_openings_end_by_the_file,
     openings_over_stores_continue, restored_openings_end_by_the_file,
 };
 pub use crate::crashes::{crashes_are_settled, worked_crashes};
+pub use crate::openings::{
+    committed_transactions_are_there, killed_openings_are_resolved_by_what_they_left,
+    killed_openings_have_one_outcome,
+};
 pub use crate::stops::stopped_openings_are_crashes;
