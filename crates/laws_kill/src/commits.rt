@@ -48,7 +48,7 @@ pub fn openings_over_stores_continue()
     crashes_are_settled();
 }
 
-/// Where the process was killed, at any moment, with a commit cut short anywhere, and the next opening resolves, over
+/// Where the process was killed (`IsCrash`), with a commit cut short anywhere, and the next opening resolves, over
 /// what the stores have and by what is read of the log's file: each branch that voted to commit ended committed where
 /// the log had the record, and rolled back where it hadn't, or it was decided heuristically; and its additions count
 /// so. What is asked of the log, and of the next opening, is what `next_openings_end_by_the_file` of laws_disk asks.

@@ -6,7 +6,7 @@ ghost use Rattle.laws_kill.specs.AsSettled.{IsAsSettled, collected_all, journal_
 ghost use Rattle.laws_kill.specs.Worked.{first_answers, first_journal, first_ledger, second_journal, worked_crash};
 ghost use Rattle.laws_kill.specs.Worked.{worked_setup};
 
-/// A crash at any moment is a settled opening: as if one more thread had shut each manager where its store ends, and
+/// A crash (`IsCrash`) is a settled opening: as if one more thread had shut each manager where its store ends, and
 /// each desk had then collected what was outstanding. What a store lacks comes after the Shut, is refused and changes
 /// nothing. Whatever was sent and collected before the crash stays, and each manager leaves what is found in its store.
 pub fn crashes_are_settled()

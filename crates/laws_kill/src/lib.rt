@@ -5,6 +5,7 @@
 //! had shut each manager at the place where its store ends, and each desk had then collected what was outstanding: a
 //! settled opening. What the laws of outcomes say of a settled opening that is opened again holds of such a crash.
 //!
+//! The laws ask this of a crash (`IsCrash`); none says yet that a kill in the middle of a call leaves it so.
 //! The program doesn't stand on this crate; a caller may cite its laws.
 #![tactic(auto)]
 

@@ -32,7 +32,7 @@ use laws_disk::files_have_one_log;
 use xa_log::laws::several_logs_are_read_as_one;
 use xa_switch::laws::reopened_openings_go_on_from_what_was_left;
 
-/// Any number of openings one after another, each ended in order or killed at any moment, in the middle of any commits
+/// Any number of openings one after another, each ended in order or killed (`IsCrash`), in the middle of any commits
 /// of any threads. For each commit that was begun in any of them, finished or cut short, there is a later opening in
 /// which a thread resolves by all logs. As that ends, each branch of the commit that voted to commit ended committed
 /// where its log has the record, and rolled back where it hasn't, or it was decided heuristically; none of them is in
