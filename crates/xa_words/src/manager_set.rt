@@ -41,7 +41,7 @@ impl ManagerSet {
         ManagerSet { places }
     }
 
-    /// The managers for which the test answers true. It is asked of each from 1 to 8 once, by rising number.
+    /// The managers for which the test answers true.
     pub fn from_fn<F: Fn(u32) -> bool>(test: F) -> ManagerSet
         requires { (m : _) → IsUpTo MOST_MANAGERS m → F.pre test m }
         ensures asked { (m : _) → IsUpTo MOST_MANAGERS m → F.post test m (is_in result m) }
